@@ -1,0 +1,4 @@
+pub mod Solver
+pub mod Poly
+pub mod Interpolation
+pub mod Vector

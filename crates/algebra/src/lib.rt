@@ -1,0 +1,45 @@
+// Theory only: each function carries one theorem in its contract and does nothing.
+ghost use Rattle.algebra.specs.Poly.{Poly-arithmetic, Few-roots, Some-through, One-through, Lagrange-value};
+ghost use Rattle.algebra.specs.Solver.{Solver-sound, Solver-uses};
+
+// An identity of ring expressions that the solver's test passes holds in every commutative ring.
+pub fn solver_is_sound<E>()
+    ensures { λ _. ⌜ Solver-sound E ⌝ }
+{
+}
+
+// The same for an identity that holds once a multiple of a known equation is added across.
+pub fn solver_uses_a_hypothesis<E>()
+    ensures { λ _. ⌜ Solver-uses E ⌝ }
+{
+}
+
+// Values and lengths of sums, scalings and products of polynomials.
+pub fn polynomials_compute<E>()
+    ensures { λ _. ⌜ Poly-arithmetic E ⌝ }
+{
+}
+
+// At most m coefficients and m roots at points with invertible differences: the zero polynomial.
+pub fn roots_are_few<E>()
+    ensures { λ _. ⌜ Few-roots E ⌝ }
+{
+}
+
+// Through any m values there is a polynomial with m coefficients.
+pub fn some_polynomial_runs_through<E>()
+    ensures { λ _. ⌜ Some-through E ⌝ }
+{
+}
+
+// Two polynomials with at most m coefficients through the same m values are one.
+pub fn one_polynomial_runs_through<E>()
+    ensures { λ _. ⌜ One-through E ⌝ }
+{
+}
+
+// Its value anywhere is Lagrange's sum.
+pub fn value_is_lagranges_sum<E>()
+    ensures { λ _. ⌜ Lagrange-value E ⌝ }
+{
+}
