@@ -1,4 +1,7 @@
 pub mod Solver
 pub mod Poly
 pub mod Interpolation
+pub mod Keeps
+pub mod Modulo
+pub mod Quotient
 pub mod Vector

@@ -1,5 +1,5 @@
 -- Tuples of d coefficients over any commutative ring, multiplied modulo a monic polynomial: a commutative ring again.
-use mathlib.Core.Path.{_≡_, refl, sym, ap, ap₂, _∙_}
+use mathlib.Core.Path.{_≡_, refl, sym, ap, ap₂, subst, _∙_}
 use mathlib.Core.List.{List, [], _∷_, _++_}
 use Prim.Native.Nat.{ℕ, zero, suc, _≤_, _<_}
 use native.Mathlib.Omega.{arith}
@@ -7,7 +7,8 @@ use lib.ListN.{length, getD}
 use Rattle.algebra.specs.Poly.{coefficient, Same, poly-sum, poly-scaled, poly-product}
 use Rattle.algebra.specs.Ring.{CommRing, ops}
 use Rattle.algebra.specs.Solver.{Ex, Identity, _:=_, nil, one, _:+_, _:-_, _:*_}
-use Rattle.algebra.proofs.Solver.{ring1, ring2, ring3, ring4, ring5, zero-add, mul-zero}
+use Rattle.algebra.proofs.Poly.{sum-coefficient, scaled-coefficient}
+use Rattle.algebra.proofs.Solver.{ring1, ring2, ring3, ring4, ring5, using3, mul-zero}
 
 abbrev pub V : Type 0 → ℕ → Type 0
 V A zero = Unit {0}
@@ -55,19 +56,19 @@ module _ {A : Type 0} (R : CommRing A) where
   lessV n a t h = addV n a (negV n (scaleV n t h))
 
   -- Laws place by place.
-  assocV : (n : ℕ) (u v w : V A n) → addV n (addV n u v) w ≡ addV n u (addV n v w)
+  pub assocV : (n : ℕ) (u v w : V A n) → addV n (addV n u v) w ≡ addV n u (addV n v w)
   assocV zero u v w = refl
   assocV (suc n) u v w = λ i. (add-assoc (u .0) (v .0) (w .0) i, assocV n (u .1) (v .1) (w .1) i)
 
-  commV : (n : ℕ) (u v : V A n) → addV n u v ≡ addV n v u
+  pub commV : (n : ℕ) (u v : V A n) → addV n u v ≡ addV n v u
   commV zero u v = refl
   commV (suc n) u v = λ i. (add-comm (u .0) (v .0) i, commV n (u .1) (v .1) i)
 
-  add-zeroV : (n : ℕ) (u : V A n) → addV n u (zeroV n) ≡ u
+  pub add-zeroV : (n : ℕ) (u : V A n) → addV n u (zeroV n) ≡ u
   add-zeroV zero u = refl
   add-zeroV (suc n) u = λ i. (add-zero (u .0) i, add-zeroV n (u .1) i)
 
-  add-negV : (n : ℕ) (u : V A n) → addV n u (negV n u) ≡ zeroV n
+  pub add-negV : (n : ℕ) (u : V A n) → addV n u (negV n u) ≡ zeroV n
   add-negV zero u = refl
   add-negV (suc n) u = λ i. (add-neg (u .0) i, add-negV n (u .1) i)
 
@@ -155,7 +156,7 @@ module _ {A : Type 0} (R : CommRing A) where
     act-zero [] = refl
     act-zero (a ∷ p) = ap₂ (addV n) (scale-zeroV n a) (ap shiftV (act-zero p) ∙ shift-zero) ∙ add-zeroV n (zeroV n)
 
-    act-add : (p : List A) (u v : V A n) → act p (addV n u v) ≡ addV n (act p u) (act p v)
+    pub act-add : (p : List A) (u v : V A n) → act p (addV n u v) ≡ addV n (act p u) (act p v)
     act-add [] u v = sym (add-zeroV n (zeroV n))
     act-add (a ∷ p) u v =
         ap₂ (addV n) (scale-addV n a u v) (ap shiftV (act-add p u v) ∙ shift-add (act p u) (act p v))
@@ -173,7 +174,7 @@ module _ {A : Type 0} (R : CommRing A) where
         ap₂ (addV n) (sym (shift-scale a v)) (ap shiftV (act-shift p v))
         ∙ sym (shift-add (scaleV n a v) (shiftV (act p v)))
 
-    act-act : (p r : List A) (v : V A n) → act p (act r v) ≡ act r (act p v)
+    pub act-act : (p r : List A) (v : V A n) → act p (act r v) ≡ act r (act p v)
     act-act [] r v = sym (act-zero r)
     act-act (a ∷ p) r v =
         ap₂ (addV n) (sym (act-scale r a v)) (ap shiftV (act-act p r v) ∙ sym (act-shift r (act p v)))
@@ -208,3 +209,189 @@ module _ {A : Type 0} (R : CommRing A) where
         ap₂ (addV n) (ap (λ k. scaleV n k v) (s 0) ∙ zero-scaleV n v) (ap shiftV (act-same f [] v (λ k. s (suc k))) ∙ shift-zero) ∙ add-zeroV n (zeroV n)
     act-same (a ∷ f) (b ∷ g) v s =
         ap₂ (addV n) (ap (λ k. scaleV n k v) (s 0)) (ap shiftV (act-same f g v (λ k. s (suc k))))
+
+  -- the first n coefficients of a list, zeros where it ends
+  abbrev pub fit : (n : ℕ) → List A → V A n
+  fit zero p = tt
+  fit (suc n) [] = (𝟎, fit n [])
+  fit (suc n) (a ∷ p) = (a, fit n p)
+
+  pub fit-list : (n : ℕ) (v : V A n) → fit n (list n v) ≡ v
+  fit-list zero v = refl
+  fit-list (suc n) v = λ i. (v .0, fit-list n (v .1) i)
+
+  list-length : (n : ℕ) (v : V A n) → length (list n v) ≡ n
+  list-length zero v = refl
+  list-length (suc n) v = ap suc (list-length n (v .1))
+
+  fit-none : (n : ℕ) → fit n [] ≡ zeroV n
+  fit-none zero = refl
+  fit-none (suc n) = λ i. (𝟎, fit-none n i)
+
+  -- a short list leaves the top coefficient free
+  push-fit : (n : ℕ) (c : A) (p : List A) → length p ≤ n → pushV (suc n) c (fit (suc n) p) ≡ (c, fit n p)
+  push-fit zero c [] le = refl
+  push-fit zero c (a ∷ p) le = let z : ⊥ = omega arith in absurd z
+  push-fit (suc n) c [] le = λ i. (c, push-fit n 𝟎 [] (omega arith) i)
+  push-fit (suc n) c (a ∷ p) le = let k : length p ≤ n = omega arith in λ i. (c, push-fit n a p k i)
+
+  top-fit : (n : ℕ) (c : A) (p : List A) → length p ≤ n → topV (suc n) c (fit (suc n) p) ≡ 𝟎
+  top-fit zero c [] le = refl
+  top-fit zero c (a ∷ p) le = let z : ⊥ = omega arith in absurd z
+  top-fit (suc n) c [] le = top-fit n 𝟎 [] (omega arith)
+  top-fit (suc n) c (a ∷ p) le = let k : length p ≤ n = omega arith in top-fit n a p k
+
+  rest-is : (n : ℕ) (a : A) (w h : V A n) → addV n (scaleV n a (zeroV n)) (lessV n w 𝟎 h) ≡ w
+  rest-is zero a w h = refl
+  rest-is (suc n) a w h = λ i. (ring3 R (λ a w h. a :* nil :+ (w :- nil :* h) := w) a (w .0) (h .0) refl i, rest-is n a (w .1) (h .1) i)
+
+  -- the last one in, after all the others
+  abbrev snocV : (n : ℕ) → V A n → A → V A (suc n)
+  snocV zero v c = (c, tt)
+  snocV (suc n) v c = (v .0, snocV n (v .1) c)
+
+  list-snoc : (n : ℕ) (v : V A n) (c : A) → list (suc n) (snocV n v c) ≡ list n v ++ (c ∷ [])
+  list-snoc zero v c = refl
+  list-snoc (suc n) v c = ap (λ l. v .0 ∷ l) (list-snoc n (v .1) c)
+
+  push-snoc : (n : ℕ) (b : A) (v : V A n) (c : A) → pushV (suc n) b (snocV n v c) ≡ (b, v)
+  push-snoc zero b v c = refl
+  push-snoc (suc n) b v c = λ i. (b, push-snoc n (v .0) (v .1) c i)
+
+  top-snoc : (n : ℕ) (b : A) (v : V A n) (c : A) → topV (suc n) b (snocV n v c) ≡ c
+  top-snoc zero b v c = refl
+  top-snoc (suc n) b v c = top-snoc n (v .0) (v .1) c
+
+  -- h - h, with nothing added
+  scaled-closes : (n : ℕ) (k : A) (h : V A n) → addV n (scaleV n k (zeroV n)) (lessV n h 𝟏 h) ≡ zeroV n
+  scaled-closes zero k h = refl
+  scaled-closes (suc n) k h = λ i. (ring2 R (λ k h. k :* nil :+ (h :- one :* h) := nil) k (h .0) refl i, scaled-closes n k (h .1) i)
+
+  -- the place where X · r stands, taken apart: t · (X^d + h) and what is left below
+  divided : (n : ℕ) (c : A) (r h : V A n) (k : ℕ)
+      → topV n c r ⊗ coefficient (ops R) (list n h ++ (𝟏 ∷ [])) k ⊕ coefficient (ops R) (list n (lessV n (pushV n c r) (topV n c r) h)) k ≡ coefficient (ops R) (c ∷ list n r) k
+  divided zero c r h zero = ring1 R (λ c. c :* one :+ nil := c) c refl
+  divided zero c r h (suc k) = ring1 R (λ c. c :* nil :+ nil := nil) c refl
+  divided (suc n) c r h zero = ring3 R (λ t h c. t :* h :+ (c :- t :* h) := c) (topV n (r .0) (r .1)) (h .0) c refl
+  divided (suc n) c r h (suc k) = divided n (r .0) (r .1) (h .1) k
+
+  zeros-none : (n k : ℕ) → coefficient (ops R) (list n (zeroV n)) k ≡ 𝟎
+  zeros-none zero k = refl
+  zeros-none (suc n) zero = refl
+  zeros-none (suc n) (suc k) = zeros-none n k
+
+  scaled-zeros : (n : ℕ) (a : A) (k : ℕ) → coefficient (ops R) (list n (scaleV n a (zeroV n))) k ≡ 𝟎
+  scaled-zeros n a k = ap (λ v. coefficient (ops R) (list n v) k) (scale-zeroV n a) ∙ zeros-none n k
+
+  add-coefficient : (n : ℕ) (u v : V A n) (k : ℕ) → coefficient (ops R) (list n (addV n u v)) k ≡ coefficient (ops R) (list n u) k ⊕ coefficient (ops R) (list n v) k
+  add-coefficient zero u v k = sym (add-zero 𝟎)
+  add-coefficient (suc n) u v zero = refl
+  add-coefficient (suc n) u v (suc k) = add-coefficient n (u .1) (v .1) k
+
+  module _ (n : ℕ) (h : V A (suc n)) where
+    abbrev d : ℕ
+    d = suc n
+
+    -- a short polynomial on one is itself
+    act-unit : (p : List A) → length p ≤ d → act d h p (unitV d) ≡ fit d p
+    act-unit [] le = sym (fit-none d)
+    act-unit (a ∷ p) le =
+        let k : length p ≤ n = omega arith in
+        let ih : act d h p (unitV d) ≡ fit d p = act-unit p (omega arith) in
+        ap (λ w. addV d (scaleV d a (unitV d)) (shiftV d h w)) ih
+        ∙ ap₂ (λ w t. addV d (scaleV d a (unitV d)) (lessV d w t h)) (push-fit n 𝟎 p k) (top-fit n 𝟎 p k)
+        ∙ (λ i. (ring2 R (λ a h. a :* one :+ (nil :- nil :* h) := a) a (h .0) refl i, rest-is n a (fit n p) (h .1) i))
+
+    pub act-whole : (u : V A d) → act d h (list d u) (unitV d) ≡ u
+    act-whole u = act-unit (list d u) (omega (arith, list-length d u)) ∙ fit-list d u
+
+    abbrev pub monicV : List A
+    monicV = list d h ++ (𝟏 ∷ [])
+
+    act-monic : act d h monicV (unitV d) ≡ zeroV d
+    act-monic =
+        ap (λ l. addV d (scaleV d (h .0) (unitV d)) (shiftV d h (act d h l (unitV d)))) (sym (list-snoc n (h .1) 𝟏))
+        ∙ ap (λ w. addV d (scaleV d (h .0) (unitV d)) (shiftV d h w)) (act-whole (snocV n (h .1) 𝟏))
+        ∙ ap₂ (λ w t. addV d (scaleV d (h .0) (unitV d)) (lessV d w t h)) (push-snoc n 𝟎 (h .1) 𝟏) (top-snoc n 𝟎 (h .1) 𝟏)
+        ∙ (λ i. (ring1 R (λ h. h :* one :+ (nil :- one :* h) := nil) (h .0) refl i, scaled-closes n (h .0) (h .1) i))
+
+    abbrev pub mulV : V A d → V A d → V A d
+    mulV u v = act d h (list d u) v
+
+    pub commutes : (u v : V A d) → mulV u v ≡ mulV v u
+    commutes u v =
+        ap (act d h (list d u)) (sym (act-whole v))
+        ∙ act-act d h (list d u) (list d v) (unitV d)
+        ∙ ap (act d h (list d v)) (act-whole u)
+
+    unfoldable pub ringV : CommRing (V A d)
+    ringV = record {
+      𝟎 = zeroV d;
+      𝟏 = unitV d;
+      _⊕_ = addV d;
+      _⊗_ = mulV;
+      neg = negV d;
+      add-assoc = assocV d;
+      add-comm = commV d;
+      add-zero = add-zeroV d;
+      add-neg = add-negV d;
+      mul-assoc = λ u v w.
+          commutes (mulV u v) w ∙ act-act d h (list d w) (list d u) v ∙ ap (mulV u) (commutes w v);
+      mul-comm = commutes;
+      mul-one = act-whole;
+      distrib = λ u v w. act-add d h (list d u) v w;
+    }
+
+    abbrev remainder : List A → V A d
+    remainder p = act d h p (unitV d)
+
+    -- division by the monic polynomial
+    abbrev quotient : List A → List A
+    quotient [] = []
+    quotient (a ∷ p) = topV d 𝟎 (remainder p) ∷ quotient p
+
+    abbrev Divides : List A → List A → V A d → Type 0
+    Divides p w r = Same (ops R) p (poly-sum (ops R) (poly-product (ops R) w monicV) (list d r))
+
+    divides : (p : List A) → Divides p (quotient p) (remainder p)
+    divides [] k = sym (zeros-none d k)
+    divides (a ∷ p) zero =
+        let t = topV d 𝟎 (remainder p) in
+        let x = t ⊗ coefficient (ops R) monicV 0 in
+        let y = coefficient (ops R) (list d (shiftV d h (remainder p))) 0 in
+        let both : x ⊕ y ≡ 𝟎 = divided d 𝟎 (remainder p) h 0 in
+        using3 R (λ a x y. nil := x :+ y) (λ a x y. one) (λ a x y. a := x :+ nil :+ (a :* one :+ y)) a x y refl (sym both)
+    divides (a ∷ p) (suc k) =
+        let t = topV d 𝟎 (remainder p) in
+        let rest = poly-product (ops R) (quotient p) monicV in
+        let x = t ⊗ coefficient (ops R) monicV (suc k) in
+        let y = coefficient (ops R) (list d (shiftV d h (remainder p))) (suc k) in
+        let both : x ⊕ y ≡ coefficient (ops R) (list d (remainder p)) k = divided d 𝟎 (remainder p) h (suc k) in
+        let pw = coefficient (ops R) rest k in
+        divides p k
+        ∙ sum-coefficient R rest (list d (remainder p)) k
+        ∙ ap (λ z. pw ⊕ z) (sym both)
+        ∙ ring3 R (λ x y w. w :+ (x :+ y) := x :+ w :+ (nil :+ y)) x y pw refl
+        ∙ sym (ap₂ _⊕_
+            (sum-coefficient R (poly-scaled (ops R) t monicV) (𝟎 ∷ rest) (suc k) ∙ ap (λ z. z ⊕ pw) (scaled-coefficient R t monicV (suc k)))
+            (add-coefficient d (scaleV d a (unitV d)) (shiftV d h (remainder p)) (suc k) ∙ ap (λ z. z ⊕ y) (scaled-zeros n a k)))
+        ∙ sym (sum-coefficient R (poly-product (ops R) (t ∷ quotient p) monicV) (list d (remainder (a ∷ p))) (suc k))
+
+    only : (p w : List A) (r : V A d) → Divides p w r → r ≡ remainder p
+    only p w r same =
+        sym (act-same d h p (poly-sum (ops R) (poly-product (ops R) w monicV) (list d r)) (unitV d) same
+        ∙ act-sum d h (poly-product (ops R) w monicV) (list d r) (unitV d)
+        ∙ ap₂ (addV d) (act-product d h w monicV (unitV d) ∙ ap (act d h w) act-monic ∙ act-zero d h w) (act-whole r)
+        ∙ commV d (zeroV d) r
+        ∙ add-zeroV d r)
+
+    product-whole : (u v : V A d) → remainder (poly-product (ops R) (list d u) (list d v)) ≡ mulV u v
+    product-whole u v = act-product d h (list d u) (list d v) (unitV d) ∙ ap (act d h (list d u)) (act-whole v)
+
+    pub product-divides : (u v : V A d) → (w : List A) × Divides (poly-product (ops R) (list d u) (list d v)) w (mulV u v)
+    product-divides u v =
+        let p = poly-product (ops R) (list d u) (list d v) in
+        (quotient p, subst (Divides p (quotient p)) (product-whole u v) (divides p))
+
+    pub product-only : (u v : V A d) (w : List A) (r : V A d) → Divides (poly-product (ops R) (list d u) (list d v)) w r → r ≡ mulV u v
+    product-only u v w r same = only (poly-product (ops R) (list d u) (list d v)) w r same ∙ product-whole u v

@@ -1,5 +1,6 @@
 // Theory only: each function carries one theorem in its contract and does nothing.
 ghost use Rattle.algebra.specs.Poly.{Poly-arithmetic, Few-roots, Some-through, One-through, Lagrange-value};
+ghost use Rattle.algebra.specs.Quotient.{Quotient-is-ring, Product-is-remainder};
 ghost use Rattle.algebra.specs.Solver.{Solver-sound, Solver-uses};
 
 // An identity of ring expressions that the solver's test passes holds in every commutative ring.
@@ -41,5 +42,17 @@ pub fn one_polynomial_runs_through<E>()
 // Its value anywhere is Lagrange's sum.
 pub fn value_is_lagranges_sum<E>()
     ensures { λ _. ⌜ Lagrange-value E ⌝ }
+{
+}
+
+// Lists of d numbers below q are a commutative ring, for every q of at least 2 and every monic polynomial of degree d of at least 1.
+pub fn quotient_is_a_ring()
+    ensures { λ _. ⌜ Quotient-is-ring ⌝ }
+{
+}
+
+// Their product is the remainder of the plain product of polynomials, and the only one.
+pub fn product_is_the_remainder()
+    ensures { λ _. ⌜ Product-is-remainder ⌝ }
 {
 }
