@@ -1,4 +1,5 @@
 pub mod Solver
+pub mod Expressions
 pub mod Poly
 pub mod Interpolation
 pub mod Keeps

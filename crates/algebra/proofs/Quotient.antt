@@ -12,7 +12,7 @@ use Rattle.algebra.specs.Quotient.{modulo, add, negate, scale, zeros, unit, pu
 use Rattle.algebra.specs.Ring.{CommRing, Ops, ops}
 use Rattle.algebra.proofs.Keeps.{Keeps, onto-ring, keeps-add, keeps-negate, keeps-zeros, keeps-unit, keeps-product, keeps-poly-sum, keeps-poly-product}
 use Rattle.algebra.proofs.Modulo.{Below, below-same, reduce, numbers, number-keeps}
-use Rattle.algebra.proofs.Vector.{V, list, addV, negV, scaleV, zeroV, unitV, pushV, topV, shiftV, act, fit, fit-list, monicV, mulV, ringV, product-divides, product-only}
+use Rattle.algebra.proofs.Vector.{V, list, addV, negV, scaleV, zeroV, unitV, pushV, topV, shiftV, act, fit, fit-list, monicV, mulV, ringV, product-whole, product-divides, product-only}
 
 -- tuples as lists
 module _ {A : Type 0} (R : CommRing A) where
@@ -230,6 +230,17 @@ module _ (s : Shape) where
 
     whole : nums s (mulV (Z s) (n s) (hV s) (vec s a) (vec s b)) ≡ product (modulo (s .q)) (s .h) a b
     whole = nums-product s (vec s a) (vec s b) ∙ ap₂ (product (modulo (s .q)) (s .h)) (nums-vec s a ia) (nums-vec s b ib)
+
+    -- the plain product, reduced by the monic polynomial
+    pub reduced-product : product (modulo (s .q)) (s .h) (poly-product (modulo (s .q)) a b) (unit (modulo (s .q)) (s .h)) ≡ product (modulo (s .q)) (s .h) a b
+    reduced-product =
+        let p = poly-product (ops (Z s)) (list (d s) (vec s a)) (list (d s) (vec s b)) in
+        sym (ap (map (plain s)) (list-act (Z s) (d s) (hV s) p (unitV (Z s) (d s)))
+          ∙ keeps-product (ops (Z s)) (modulo (s .q)) (plain s) (number-keeps (s .q) (s .two)) (list (d s) (hV s)) p (list (d s) (unitV (Z s) (d s)))
+          ∙ ap₂ (λ h f. product (modulo (s .q)) h f (nums s (unitV (Z s) (d s)))) (nums-h s) sides
+          ∙ ap (product (modulo (s .q)) (s .h) (poly-product (modulo (s .q)) a b)) (nums-unit s))
+        ∙ ap (nums s) (product-whole (Z s) (n s) (hV s) (vec s a) (vec s b))
+        ∙ whole
 
     remainder-is : Remainder s (poly-product (modulo (s .q)) a b) (product (modulo (s .q)) (s .h) a b)
     remainder-is =

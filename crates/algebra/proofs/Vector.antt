@@ -342,7 +342,7 @@ module _ {A : Type 0} (R : CommRing A) where
       distrib = λ u v w. act-add d h (list d u) v w;
     }
 
-    abbrev remainder : List A → V A d
+    abbrev pub remainder : List A → V A d
     remainder p = act d h p (unitV d)
 
     -- division by the monic polynomial
@@ -385,7 +385,7 @@ module _ {A : Type 0} (R : CommRing A) where
         ∙ commV d (zeroV d) r
         ∙ add-zeroV d r)
 
-    product-whole : (u v : V A d) → remainder (poly-product (ops R) (list d u) (list d v)) ≡ mulV u v
+    pub product-whole : (u v : V A d) → remainder (poly-product (ops R) (list d u) (list d v)) ≡ mulV u v
     product-whole u v = act-product d h (list d u) (list d v) (unitV d) ∙ ap (act d h (list d u)) (act-whole v)
 
     pub product-divides : (u v : V A d) → (w : List A) × Divides (poly-product (ops R) (list d u) (list d v)) w (mulV u v)
