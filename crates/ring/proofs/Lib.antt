@@ -1,3 +1,4 @@
+pub mod Bytes
 pub mod Laws
 pub mod Tables
 pub mod Words

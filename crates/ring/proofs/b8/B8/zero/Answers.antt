@@ -1,5 +1,7 @@
-use borrow.Author.Needs.{needs}
+use mathlib.Core.Path.{refl}
+use Rattle.algebra.proofs.Quotient.{same-element}
+use Rattle.ring.specs.B8.{b8}
 use Rattle.ring.proofs.b8.B8.zero.Needs as need
 
 pub returns : need.returns
-returns c = ?
+returns c = same-element b8 _ _ refl
