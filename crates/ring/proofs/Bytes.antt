@@ -53,9 +53,11 @@ scale-none (x ∷ v) (y ∷ w) e low =
     ap₂ (λ z l. z ∷ l) (ap (λ z. (z % 2 + y) % 2) (zero-mul x) ∙ ap (λ z. z % 2) (zero-add y) ∙ mod-eq-of-lt (low .0)) (scale-none v w rest (low .1))
 
 pub byte-sum : (a b : ℕ) → b8-element (bitXor a b) ≡ ring b8 ._⊕_ (b8-element a) (b8-element b)
+unfolding ring
 byte-sum a b = same-element b8 _ _ (bits-xor a b)
 
 pub byte-difference : (a b : ℕ) → b8-element (bitXor a b) ≡ sub (ring b8) (b8-element a) (b8-element b)
+unfolding ring
 byte-difference a b = same-element b8 _ _ (bits-xor a b ∙ ap (add (modulo 2) (bits a)) (sym (negate-same (bits b) (b8-element b .1 .1))))
 
 pub byte-wraps : (i : ℕ) → b8-element (i % 256) ≡ b8-element i
@@ -118,6 +120,7 @@ module _ (a b sum d k : ℕ) (some : 0 < k) (most : k ≤ 8) (worked : bits sum 
       ∙ sym (next 1 e ∙ ap (λ v. add (modulo 2) v (bits d)) (scale-one (bits b) (b8-element b .1 .1)))
 
 pub byte-product : (a b sum k : ℕ) → k ≤ 0 → bits sum ≡ product (modulo 2) (b8 .h) (drop k (bits a)) (bits b) → b8-element sum ≡ ring b8 ._⊗_ (b8-element a) (b8-element b)
+unfolding ring
 byte-product a b sum k none worked =
     let zero-is : k ≡ 0 = omega arith in
     same-element b8 _ _ (worked ∙ ap (λ m. product (modulo 2) (b8 .h) (drop m (bits a)) (bits b)) zero-is)
@@ -150,7 +153,7 @@ xor-none : (i j : ℕ) → bitXor i j ≡ 0 → i ≡ j
 xor-none i j e = sym (xor-zero-r i) ∙ ap (bitXor i) (sym (xor-self j)) ∙ sym (xor-assoc i j j) ∙ ap (λ x. bitXor x j) e ∙ xor-zero-l j
 
 pub b8-laws : Point-laws b8 b8-points
-unfolding inverts
+unfolding inverts ring
 b8-laws = record {
   many = lit≤ tt;
   start = same-element b8 _ _ refl;

@@ -30,6 +30,7 @@ sum-mod : (x y : ℕ) → (x + y) % Q % Q ≡ (x % Q + y % Q) % Q
 sum-mod x y = mod-mod (x + y) Q ∙ add-mod x y Q
 
 pub sum-is : (x y : List ℕ) → w4-element ((getD x 0 0 + getD y 0 0) % Q ∷ (getD x 1 0 + getD y 1 0) % Q ∷ (getD x 2 0 + getD y 2 0) % Q ∷ (getD x 3 0 + getD y 3 0) % Q ∷ []) ≡ ring w4 ._⊕_ (w4-element x) (w4-element y)
+unfolding ring
 sum-is x y = same-element w4 _ _ (λ i. sum-mod (getD x 0 0) (getD y 0 0) i ∷ sum-mod (getD x 1 0) (getD y 1 0) i ∷ sum-mod (getD x 2 0) (getD y 2 0) i ∷ sum-mod (getD x 3 0) (getD y 3 0) i ∷ [])
 
 -- the wrapping difference
@@ -42,6 +43,7 @@ less-mod x y h =
 
 pub difference-is : (x y : List ℕ) → getD y 0 0 < Q → getD y 1 0 < Q → getD y 2 0 < Q → getD y 3 0 < Q
     → w4-element (less (getD x 0 0) (getD y 0 0) ∷ less (getD x 1 0) (getD y 1 0) ∷ less (getD x 2 0) (getD y 2 0) ∷ less (getD x 3 0) (getD y 3 0) ∷ []) ≡ sub (ring w4) (w4-element x) (w4-element y)
+unfolding ring
 difference-is x y h0 h1 h2 h3 =
     same-element w4 _ _ (λ i. less-mod (getD x 0 0) (getD y 0 0) h0 i ∷ less-mod (getD x 1 0) (getD y 1 0) h1 i ∷ less-mod (getD x 2 0) (getD y 2 0) h2 i ∷ less-mod (getD x 3 0) (getD y 3 0) h3 i ∷ [])
 
@@ -142,6 +144,7 @@ reduced-is s f =
 
 pub product-is : (x y s r : List ℕ) → s ≡ poly-product (modulo Q) (w4-element x .0) (w4-element y .0) → w4-element r .0 ≡ product (modulo Q) (w4 .h) (seven s) (unit (modulo Q) (w4 .h))
     → w4-element r ≡ ring w4 ._⊗_ (w4-element x) (w4-element y)
+unfolding ring
 product-is x y s r sums fold =
     same-element w4 _ _ (fold ∙ ap (λ l. product (modulo Q) (w4 .h) (seven l) (unit (modulo Q) (w4 .h))) sums ∙ reduced-product w4 (w4-element x .0) (w4-element y .0) (w4-element x .1) (w4-element y .1))
 
@@ -172,7 +175,7 @@ blank : ℕ → Bool
 blank i = same-list (w4-entry i i .0) (0 ∷ 0 ∷ 0 ∷ 0 ∷ [])
 
 all-right : T (every 16 (λ i. every 16 (right i)))
-unfolding right
+unfolding right ring
 all-right = tt
 
 all-blank : T (every 16 blank)
@@ -180,7 +183,7 @@ unfolding blank
 all-blank = tt
 
 pub w4-laws : Point-laws w4 w4-points
-unfolding right blank
+unfolding right blank ring
 w4-laws = record {
   many = lit≤ tt;
   start = same-element w4 _ _ refl;

@@ -8,7 +8,7 @@ use Rattle.algebra.specs.Ring.{CommRing, sub}
 use Rattle.algebra.proofs.Quotient as quotient
 
 -- the commutative ring on the lists of d numbers below q
-abbrev pub ring : (s : Shape) → CommRing (Element s)
+unfoldable pub ring : (s : Shape) → CommRing (Element s)
 ring = quotient.ring
 
 abbrev pub degree : Shape → ℕ
