@@ -26,14 +26,18 @@ use Rattle.curve.specs.declared.Opening.{Opening}
 use Rattle.curve.specs.declared.Opening.the-variants.{Value, Fault}
 use Rattle.curve.specs.declared.refusal.Refusal.{Refusal}
 use Rattle.curve.specs.declared.refusal.Refusal.the-variants.{Seats, Threshold, Length}
-use Rattle.curve.specs.Curve.{El, K, seats-wrong, word, share, listed, deal-refused, Dealt-by, Dealt, open-refused, Through, Opens, Off, Answers, Opened-by, Opened, Agree, Opens-once, Returns, Comes-back}
+use Rattle.curve.specs.Curve.{El, K, seats-wrong, word, share, listed, curve-refused, or-else, deal-refused, tested, Dealt-by, Dealt, Through, Opens, Off, Answers, Opened-by, Opened, Agree, Opens-once, Returns, Comes-back}
 
-pub deal-taken : (points n d a b : ℕ) → false ≡ seats-wrong points n → d < n → a ≡ d → b ≡ n → deal-refused points n d a b ≡ None
-deal-taken points n d a b seats degree coefficients table =
-    cond-false (seats-wrong points n) _ _ (sym seats)
-    ∙ cond-false (leb n d) _ _ (lt-leb n d degree)
+pub deal-taken : (points n d a b : ℕ) → curve-refused points n d ≡ None → a ≡ d → b ≡ n → deal-refused points n d a b ≡ None
+deal-taken points n d a b curve coefficients table =
+    ap (λ o. or-else o (cond (eqb a d) (cond (eqb b n) None (Some Length)) (Some Length))) curve
     ∙ cond-true (eqb a d) _ _ (eq-eqb a d coefficients)
     ∙ cond-true (eqb b n) _ _ (eq-eqb b n table)
+
+-- the tests were passed
+pub tests-passed : (o : Option Refusal) → Ok tt ≡ tested o → o ≡ None
+tests-passed None e = refl
+tests-passed (Some x) e = let z : _≡_ {A = ℕ} 0 1 = cc in let f : ⊥ = omega arith in absurd f
 
 pub dealt-ok : {R C : Type 0} (G : Ghosts R C) (n d : ℕ) (secret : R) (others before after : List R)
     → deal-refused (G .points .count) n d (length others) (length before) ≡ None
@@ -41,10 +45,7 @@ pub dealt-ok : {R C : Type 0} (G : Ghosts R C) (n d : ℕ) (secret : R) (others 
     → Dealt G n d secret others before (Ok tt) after
 dealt-ok G n d secret others before after e is = subst (Dealt-by G n secret others before (Ok tt) after) (sym e) (refl, is)
 
-pub open-taken : (points n d : ℕ) → false ≡ seats-wrong points n → d < n → open-refused points n d ≡ None
-open-taken points n d seats degree = cond-false (seats-wrong points n) _ _ (sym seats) ∙ cond-false (leb n d) _ _ (lt-leb n d degree)
-
-pub opened-ok : {R C : Type 0} (G : Ghosts R C) (d : ℕ) (row : List R) (o : Opening R) → open-refused (G .points .count) (length row) d ≡ None → Answers G d row o → Opened G d row (Ok o)
+pub opened-ok : {R C : Type 0} (G : Ghosts R C) (d : ℕ) (row : List R) (o : Opening R) → curve-refused (G .points .count) (length row) d ≡ None → Answers G d row o → Opened G d row (Ok o)
 opened-ok G d row o e a = subst (Opened-by G d row (Ok o)) (sym e) a
 
 -- what is taken passed every test
@@ -56,8 +57,16 @@ fits : (b : Bool) (e : Refusal) (o : Option Refusal) → cond b o (Some e) ≡ N
 fits true e o h = (refl, h)
 fits false e o h = let z : _≡_ {A = ℕ} 0 1 = cc in let f : ⊥ = omega arith in absurd f
 
-seats-below : (points n : ℕ) → seats-wrong points n ≡ false → n < points
-seats-below points n e = leb-false points n (or-parts (eqb n 0 || ltb 31 n) (leb points n) e .1)
+both-none : (o q : Option Refusal) → or-else o q ≡ None → (o ≡ None) × (q ≡ None)
+both-none None q h = (refl, h)
+both-none (Some e) q h = let z : _≡_ {A = ℕ} 0 1 = cc in let f : ⊥ = omega arith in absurd f
+
+-- the seats stand below the points, and the degree below the seats
+pub seats-below : (points n d : ℕ) → curve-refused points n d ≡ None → n < points
+seats-below points n d e = leb-false points n (or-parts (eqb n 0 || ltb 31 n) (leb points n) (passed (seats-wrong points n) Seats _ e .0) .1)
+
+pub degree-below : (points n d : ℕ) → curve-refused points n d ≡ None → d < n
+degree-below points n d e = leb-false n d (passed (leb n d) Threshold None (passed (seats-wrong points n) Seats _ e .1) .0)
 
 -- A row opens, and where, for a number of seats and a degree that are taken.
 module _ {R C : Type 0} (G : Ghosts R C) (laws : Point-laws (G .shape) (G .points)) where
@@ -177,25 +186,28 @@ module _ {R C : Type 0} (G : Ghosts R C) (laws : Point-laws (G .shape) (G .point
     once (Fault i) (Fault j) x y = places-agree i j x y
 
   -- the two answers of the code
-  module _ (d : ℕ) (row : List R) (seats : false ≡ seats-wrong (G .points .count) (length row)) (degree : d < length row) where
+  module _ (d : ℕ) (row : List R) (taken : curve-refused (G .points .count) (length row) d ≡ None) where
+    below : length row < G .points .count
+    below = seats-below (G .points .count) (length row) d taken
+
+    degree : d < length row
+    degree = degree-below (G .points .count) (length row) d taken
+
     pub opened-value : {i : ℕ} (r : R) (x : El G) → Agrees row (d + 1) i → length row ≤ i → x ≡ K G .𝟎 → G .element r ≡ lagrange (K G) (d + 1) p u (word G row) x → Opened G d row (Ok (Value r))
     opened-value {i} r x agrees all ex er =
-        opened-ok G d row (Value r) (open-taken (G .points .count) (length row) d seats degree)
-        (opens d row degree (seats-below (G .points .count) (length row) (sym seats)) (G .element r)
-          (record { at = λ k low high. let below : k < i = omega arith in agrees .at k low below })
+        opened-ok G d row (Value r) taken
+        (opens d row degree below (G .element r)
+          (record { at = λ k low high. let under : k < i = omega arith in agrees .at k low under })
           (er ∙ ap (lagrange (K G) (d + 1) p u (word G row)) ex))
 
     pub opened-fault : {s : ℕ} (x v w : El G) → Agrees row (d + 1) s → d + 1 ≤ s → s < length row → x ≡ p s → v ≡ lagrange (K G) (d + 1) p u (word G row) x → w ≡ word G row s → (v ≡ w → ⊥) → Opened G d row (Ok (Fault (s + 1)))
     opened-fault {s} x v w agrees past inside ex ev ew differ =
-        opened-ok G d row (Fault (s + 1)) (open-taken (G .points .count) (length row) d seats degree)
-        (off d row degree (seats-below (G .points .count) (length row) (sym seats)) s past inside agrees
+        opened-ok G d row (Fault (s + 1)) taken
+        (off d row degree below s past inside agrees
           (λ e. differ (ev ∙ ap (lagrange (K G) (d + 1) p u (word G row)) ex ∙ e ∙ sym ew)))
 
   pub opens-once : Opens-once G
-  opens-once d row taken =
-      let tests = passed (seats-wrong (G .points .count) (length row)) Seats _ taken in
-      let degree = leb-false (length row) d (passed (leb (length row) d) Threshold None (tests .1) .0) in
-      once d row degree (seats-below (G .points .count) (length row) (tests .0))
+  opens-once d row taken = once d row (degree d row taken) (below d row taken)
 
   listed-at : {A : Type 0} (n : ℕ) (f : ℕ → A) (d : A) (k : ℕ) → k < n → getD (listed n f) k d ≡ f k
   listed-at zero f d k h = let z : ⊥ = omega arith in absurd z
@@ -240,13 +252,11 @@ module _ {R C : Type 0} (G : Ghosts R C) (laws : Point-laws (G .shape) (G .point
   comes-back n d secret others before shares dealt r opened =
       let points = G .points .count in
       let taken = dealt-taken n secret others before shares (deal-refused points n d (length others) (length before)) dealt in
-      let tests = passed (seats-wrong points n) Seats _ (taken .0) in
-      let degrees = passed (leb n d) Threshold _ (tests .1) in
-      let counts = fits (eqb (length others) d) Length _ (degrees .1) in
-      let degree = leb-false n d (degrees .0) in
-      let seats = seats-below points n (tests .0) in
-      let count = eqb-true (length others) d (counts .0) in
-      let size = long n d secret others shares degree seats count (taken .1) in
-      back n d secret others shares degree seats count (taken .1) r (open-refused points (length shares) d)
-      (open-taken points (length shares) d (sym (ap (seats-wrong points) size ∙ tests .0)) (omega arith))
+      let tests = both-none (curve-refused points n d) _ (taken .0) in
+      let seats = seats-below points n d (tests .0) in
+      let degrees = degree-below points n d (tests .0) in
+      let count = eqb-true (length others) d (fits (eqb (length others) d) Length _ (tests .1) .0) in
+      let size = long n d secret others shares degrees seats count (taken .1) in
+      back n d secret others shares degrees seats count (taken .1) r (curve-refused points (length shares) d)
+      (ap (λ k. curve-refused points k d) size ∙ tests .0)
       opened

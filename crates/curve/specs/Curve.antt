@@ -44,10 +44,24 @@ abbrev pub listed : {A : Type 0} → ℕ → (ℕ → A) → List A
 listed zero f = []
 listed (suc n) f = f zero ∷ listed n (λ k. f (suc k))
 
--- Why dealing to n seats with degree d is refused: the lengths are of the other coefficients and of the table of shares.
+-- why a polynomial of degree d for n seats is refused
+abbrev pub curve-refused : ℕ → ℕ → ℕ → Option Refusal
+curve-refused points n d = cond (seats-wrong points n) (Some Seats) (cond (leb n d) (Some Threshold) None)
+
+-- a refusal, or else the next one
+abbrev pub or-else : Option Refusal → Option Refusal → Option Refusal
+or-else None o = o
+or-else (Some e) o = Some e
+
+-- why dealing is refused, with so many other coefficients and so long a table of shares
 abbrev pub deal-refused : ℕ → ℕ → ℕ → ℕ → ℕ → Option Refusal
 deal-refused points n d coefficients table =
-    cond (seats-wrong points n) (Some Seats) (cond (leb n d) (Some Threshold) (cond (eqb coefficients d) (cond (eqb table n) None (Some Length)) (Some Length)))
+    or-else (curve-refused points n d) (cond (eqb coefficients d) (cond (eqb table n) None (Some Length)) (Some Length))
+
+-- nothing, or the refusal
+abbrev pub tested : Option Refusal → Result (Unit {0}) Refusal
+tested None = Ok tt
+tested (Some e) = Err e
 
 -- The answer, and the table of shares before and after: the shares of secret + c₁ X + .., or a refusal and no change.
 abbrev pub Dealt-by : {R C : Type 0} (G : Ghosts R C) → ℕ → R → List R → List R → Result (Unit {0}) Refusal → List R → Option Refusal → Type 0
@@ -57,10 +71,6 @@ Dealt-by G n secret others before r after (Some e) = (r ≡ Err e) × (after ≡
 abbrev pub Dealt : {R C : Type 0} (G : Ghosts R C) → ℕ → ℕ → R → List R → List R → Result (Unit {0}) Refusal → List R → Type 0
 Dealt G n d secret others before r after =
     Dealt-by G n secret others before r after (deal-refused (G .points .count) n d (length others) (length before))
-
--- why opening a row of n words with degree d is refused
-abbrev pub open-refused : ℕ → ℕ → ℕ → Option Refusal
-open-refused points n d = cond (seats-wrong points n) (Some Seats) (cond (leb n d) (Some Threshold) None)
 
 -- a polynomial of degree at most d through the first n words of a row
 pub record Through {R C : Type 0} (G : Ghosts R C) (d n : ℕ) (row : List R) (cs : List (El G)) : Type 0 where
@@ -97,7 +107,7 @@ Opened-by G d row r None = Answered G d row r
 Opened-by G d row r (Some e) = r ≡ Err e
 
 abbrev pub Opened : {R C : Type 0} (G : Ghosts R C) → ℕ → List R → Result (Opening R) Refusal → Type 0
-Opened G d row r = Opened-by G d row r (open-refused (G .points .count) (length row) d)
+Opened G d row r = Opened-by G d row r (curve-refused (G .points .count) (length row) d)
 
 -- what two openings of one row have in common: all
 abbrev pub Agree : {R C : Type 0} (G : Ghosts R C) → Opening R → Opening R → Type 0
@@ -109,7 +119,7 @@ Agree G (Fault i) (Fault j) = i ≡ j
 -- a row has one answer at most
 abbrev pub Opens-once : {R C : Type 0} → Ghosts R C → Type 0
 Opens-once {R} G =
-    (d : ℕ) (row : List R) → open-refused (G .points .count) (length row) d ≡ None
+    (d : ℕ) (row : List R) → curve-refused (G .points .count) (length row) d ≡ None
     → (a b : Opening R) → Answers G d row a → Answers G d row b → Agree G a b
 
 -- the value w and nothing else

@@ -4,7 +4,7 @@ ghost use Prim.Native.Nat.{ℕ, _+_, _<_, _≤_};
 ghost use lib.ListN.{length};
 ghost use Rattle.algebra.specs.Poly.{val, factor as lagrange-factor, lagrange};
 ghost use Rattle.algebra.specs.Ring.{ops};
-ghost use Rattle.curve.specs.Curve.{K, seats-wrong, word, Dealt, Opened, Opens-once, Comes-back};
+ghost use Rattle.curve.specs.Curve.{K, curve-refused, tested, word, Dealt, Opened, Opens-once, Comes-back};
 use refusal::Refusal;
 use ring::Ring;
 
@@ -17,10 +17,17 @@ pub enum Opening<R> {
     Fault(usize),
 }
 
-fn seats_refused<R: Ring>(n: usize) -> bool
-    ensures { λ r. ⌜ r ≡ seats-wrong (R·Ring .points .count) n ⌝ }
+// The tests that dealing and opening share: the number of seats, then the degree.
+fn tests<R: Ring>(n: usize, degree: usize) -> Result<(), Refusal>
+    ensures { λ r. ⌜ r ≡ tested (curve-refused (R·Ring .points .count) n degree) ⌝ }
 {
-    n == 0 || n > 31 || n >= R::point_count()
+    if n == 0 || n > 31 || n >= R::point_count() {
+        return Err(Refusal::Seats);
+    }
+    if degree >= n {
+        return Err(Refusal::Threshold);
+    }
+    Ok(())
 }
 
 // The value at x of the polynomial with these coefficients, by Horner's rule.
@@ -38,12 +45,7 @@ fn value_at<R: Ring>(secret: R, others: &[R], x: R) -> R
 pub fn deal<R: Ring>(n: usize, degree: usize, secret: R, others: &[R], shares: &mut [R]) -> Result<(), Refusal>
     ensures { λ r. ⌜ Dealt R·Ring n degree secret (now (others .entry)) (now (shares .entry)) r (now (shares .exit)) ⌝ }
 {
-    if seats_refused::<R>(n) {
-        return Err(Refusal::Seats);
-    }
-    if degree >= n {
-        return Err(Refusal::Threshold);
-    }
+    tests::<R>(n, degree)?;
     if others.len() != degree || shares.len() != n {
         return Err(Refusal::Length);
     }
@@ -85,12 +87,7 @@ pub fn open_row<R: Ring>(degree: usize, row: &[R]) -> Result<Opening<R>, Refusal
     ensures { λ r. ⌜ Opened R·Ring degree (now (row .entry)) r ⌝ }
 {
     let n = row.len();
-    if seats_refused::<R>(n) {
-        return Err(Refusal::Seats);
-    }
-    if degree >= n {
-        return Err(Refusal::Threshold);
-    }
+    tests::<R>(n, degree)?;
     let m = degree + 1;
     for s in m..n {
         if !interpolated(row, m, R::point(s + 1)).same(row[s]) {

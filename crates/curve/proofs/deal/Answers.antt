@@ -5,7 +5,7 @@ use Rattle.algebra.specs.Poly.{val}
 use Rattle.algebra.specs.Ring.{ops}
 use Rattle.curve.specs.Curve.{K, share}
 use Rattle.curve.proofs.Loops.{filled-none, filled-more, filled-all}
-use Rattle.curve.proofs.Theory.{deal-taken, dealt-ok}
+use Rattle.curve.proofs.Theory.{deal-taken, dealt-ok, tests-passed}
 use Rattle.curve.proofs.deal.Needs as need
 
 pub loop-i-holds : need.loop-i-holds
@@ -21,5 +21,5 @@ pub returns : need.returns
 returns g c =
     let G = g .R·Ring in
     dealt-ok G (c .args .n) (c .args .degree) (c .args .secret) (c .args .others .now) (c .args .shares .now) (c .loop-i .shares)
-    (deal-taken (G .points .count) (c .args .n) (c .args .degree) _ _ (c .if-seats-refused .ensures tt) (c .if-degree-n .left) (c .if-others-degree .left) (c .if-shares-n .left))
+    (deal-taken (G .points .count) (c .args .n) (c .args .degree) _ _ (tests-passed _ (c .in-Continue-tests .ensures tt)) (c .if-others-degree .left) (c .if-shares-n .left))
     (filled-all (G .element) (c .loop-i .shares) (c .args .n) (c .loop-i .inv) (omega arith) (c .loop-i-test .left))
