@@ -46,9 +46,9 @@ module _ {A B : Type 0} (O : Ops A) (P : Ops B) (f : A → B) (k : Keeps O P f) 
   keeps-shift h v =
       keeps-add (push (O .zero) v) (negate O (scale O (top (O .zero) v) h))
       ∙ ap₂ (add P)
-        (keeps-push (O .zero) v ∙ ap (λ c. push c (map f v)) (k .zero))
-        (keeps-negate (scale O (top (O .zero) v) h)
-        ∙ ap (negate P) (keeps-scale (top (O .zero) v) h ∙ ap (λ t. scale P t (map f h)) (keeps-top (O .zero) v ∙ ap (λ c. top c (map f v)) (k .zero))))
+      (keeps-push (O .zero) v ∙ ap (λ c. push c (map f v)) (k .zero))
+      (keeps-negate (scale O (top (O .zero) v) h)
+      ∙ ap (negate P) (keeps-scale (top (O .zero) v) h ∙ ap (λ t. scale P t (map f h)) (keeps-top (O .zero) v ∙ ap (λ c. top c (map f v)) (k .zero))))
 
   pub keeps-product : (h u v : List A) → map f (product O h u v) ≡ product P (map f h) (map f u) (map f v)
   keeps-product h [] v = keeps-zeros h

@@ -49,7 +49,7 @@ module _ {A : Type 0} (R : CommRing A) where
       let t = topV R n (R .𝟎) v in
       list-add n (pushV R n (R .𝟎) v) (negV R n (scaleV R n t h))
       ∙ ap₂ (add (ops R)) (list-push n (R .𝟎) v)
-        (list-negate n (scaleV R n t h) ∙ ap (negate (ops R)) (list-scale n t h ∙ ap (λ k. scale (ops R) k (list n h)) (list-top n (R .𝟎) v)))
+      (list-negate n (scaleV R n t h) ∙ ap (negate (ops R)) (list-scale n t h ∙ ap (λ k. scale (ops R) k (list n h)) (list-top n (R .𝟎) v)))
 
   list-act : (n : ℕ) (h : V A n) (p : List A) (v : V A n) → list n (act R n h p v) ≡ product (ops R) (list n h) p (list n v)
   list-act n h [] v = list-zeros n h
@@ -236,9 +236,9 @@ module _ (s : Shape) where
     reduced-product =
         let p = poly-product (ops (Z s)) (list (d s) (vec s a)) (list (d s) (vec s b)) in
         sym (ap (map (plain s)) (list-act (Z s) (d s) (hV s) p (unitV (Z s) (d s)))
-          ∙ keeps-product (ops (Z s)) (modulo (s .q)) (plain s) (number-keeps (s .q) (s .two)) (list (d s) (hV s)) p (list (d s) (unitV (Z s) (d s)))
-          ∙ ap₂ (λ h f. product (modulo (s .q)) h f (nums s (unitV (Z s) (d s)))) (nums-h s) sides
-          ∙ ap (product (modulo (s .q)) (s .h) (poly-product (modulo (s .q)) a b)) (nums-unit s))
+        ∙ keeps-product (ops (Z s)) (modulo (s .q)) (plain s) (number-keeps (s .q) (s .two)) (list (d s) (hV s)) p (list (d s) (unitV (Z s) (d s)))
+        ∙ ap₂ (λ h f. product (modulo (s .q)) h f (nums s (unitV (Z s) (d s)))) (nums-h s) sides
+        ∙ ap (product (modulo (s .q)) (s .h) (poly-product (modulo (s .q)) a b)) (nums-unit s))
         ∙ ap (nums s) (product-whole (Z s) (n s) (hV s) (vec s a) (vec s b))
         ∙ whole
 
@@ -246,16 +246,18 @@ module _ (s : Shape) where
     remainder-is =
         let found = product-divides (Z s) (n s) (hV s) (vec s a) (vec s b) in
         let r = list (d s) (mulV (Z s) (n s) (hV s) (vec s a) (vec s b)) in
-        let same = same-plain (poly-product (ops (Z s)) (list (d s) (vec s a)) (list (d s) (vec s b))) (poly-sum (ops (Z s)) (poly-product (ops (Z s)) (found .0) (monicV (Z s) (n s) (hV s))) r) (found .1) in
-        (map (plain s) (found .0), all-plain s (found .0),
-          subst₂ (Same (modulo (s .q))) sides (plain-side (found .0) r ∙ ap (poly-sum (modulo (s .q)) (poly-product (modulo (s .q)) (map (plain s) (found .0)) (monic s))) whole) same)
+        let same = same-plain (poly-product (ops (Z s)) (list (d s) (vec s a)) (list (d s) (vec s b))) (poly-sum (ops (Z s)) (poly-product (ops (Z s)) (found .0) (monicV (Z s) (n s) (hV s))) r) (found .1) in (
+          map (plain s) (found .0),
+          all-plain s (found .0),
+          subst₂ (Same (modulo (s .q))) sides (plain-side (found .0) r ∙ ap (poly-sum (modulo (s .q)) (poly-product (modulo (s .q)) (map (plain s) (found .0)) (monic s))) whole) same,
+        )
 
     remainder-only : (r : List ℕ) → Is s r → Remainder s (poly-product (modulo (s .q)) a b) r → r ≡ product (modulo (s .q)) (s .h) a b
     remainder-only r ir m =
         let w = map (reduce (s .q) (s .two)) (m .0) in
         let target = poly-sum (ops (Z s)) (poly-product (ops (Z s)) w (monicV (Z s) (n s) (hV s))) (list (d s) (vec s r)) in
         let side : poly-sum (modulo (s .q)) (poly-product (modulo (s .q)) (m .0) (monic s)) r ≡ map (plain s) target
-              = sym (plain-side w (list (d s) (vec s r)) ∙ ap₂ (λ f g. poly-sum (modulo (s .q)) (poly-product (modulo (s .q)) f (monic s)) g) (plain-reduce s (m .0) (m .1)) (nums-vec s r ir)) in
+        = sym (plain-side w (list (d s) (vec s r)) ∙ ap₂ (λ f g. poly-sum (modulo (s .q)) (poly-product (modulo (s .q)) f (monic s)) g) (plain-reduce s (m .0) (m .1)) (nums-vec s r ir)) in
         sym (nums-vec s r ir)
         ∙ ap (nums s) (product-only (Z s) (n s) (hV s) (vec s a) (vec s b) w (vec s r) (same-below (poly-product (ops (Z s)) (list (d s) (vec s a)) (list (d s) (vec s b))) target (subst₂ (Same (modulo (s .q))) (sym sides) side (m .2))))
         ∙ whole

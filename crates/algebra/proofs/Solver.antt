@@ -10,9 +10,9 @@ use Rattle.algebra.specs.Solver.{Ex, Identity, _:=_, var, nil, one, _:+_, _:-_
 
 module _ {A : Type 0} (R : CommRing A) where
   open CommRing R using (𝟎, 𝟏, _⊕_, _⊗_, neg, add-assoc, add-comm, add-zero, add-neg, mul-assoc, mul-comm, mul-one, distrib)
+
   infixl 65 _⊕_
   infixl 70 _⊗_
-
   pub zero-add : (a : A) → 𝟎 ⊕ a ≡ a
   zero-add a = add-comm 𝟎 a ∙ add-zero a
 
@@ -54,8 +54,8 @@ module _ {A : Type 0} (R : CommRing A) where
     enter-is x [] = refl
     enter-is x (y ∷ m) =
         elim (ltb y x) as (λ b. monomial (elim b [ true ↦ y ∷ enter x m | false ↦ x ∷ y ∷ m ]) ≡ at x ⊗ (at y ⊗ monomial m)) [
-          true ↦ ap (λ z. at y ⊗ z) (enter-is x m) ∙ mul-left-comm (at y) (at x) (monomial m)
-        | false ↦ refl
+          | true ↦ ap (λ z. at y ⊗ z) (enter-is x m) ∙ mul-left-comm (at y) (at x) (monomial m)
+          | false ↦ refl
         ]
 
     joined-is : (m n : Monomial) → monomial (joined m n) ≡ monomial m ⊗ monomial n
@@ -66,8 +66,8 @@ module _ {A : Type 0} (R : CommRing A) where
     insert-is m [] = refl
     insert-is m (n ∷ s) =
         elim (before n m) as (λ b. total (elim b [ true ↦ n ∷ insert m s | false ↦ m ∷ n ∷ s ]) ≡ monomial m ⊕ (monomial n ⊕ total s)) [
-          true ↦ ap (λ z. monomial n ⊕ z) (insert-is m s) ∙ add-left-comm (monomial n) (monomial m) (total s)
-        | false ↦ refl
+          | true ↦ ap (λ z. monomial n ⊕ z) (insert-is m s) ∙ add-left-comm (monomial n) (monomial m) (total s)
+          | false ↦ refl
         ]
 
     plus-is : (s t : Sum) → total (plus s t) ≡ total s ⊕ total t

@@ -20,9 +20,9 @@ list (suc n) v = v .0 ∷ list n (v .1)
 
 module _ {A : Type 0} (R : CommRing A) where
   open CommRing R using (𝟎, 𝟏, _⊕_, _⊗_, neg, add-assoc, add-comm, add-zero, add-neg, mul-assoc, mul-comm, mul-one, distrib)
+
   infixl 65 _⊕_
   infixl 70 _⊗_
-
   abbrev pub addV : (n : ℕ) → V A n → V A n → V A n
   addV zero u v = tt
   addV (suc n) u v = (u .0 ⊕ v .0, addV n (u .1) (v .1))
@@ -373,8 +373,8 @@ module _ {A : Type 0} (R : CommRing A) where
         ∙ ap (λ z. pw ⊕ z) (sym both)
         ∙ ring3 R (λ x y w. w :+ (x :+ y) := x :+ w :+ (nil :+ y)) x y pw refl
         ∙ sym (ap₂ _⊕_
-            (sum-coefficient R (poly-scaled (ops R) t monicV) (𝟎 ∷ rest) (suc k) ∙ ap (λ z. z ⊕ pw) (scaled-coefficient R t monicV (suc k)))
-            (add-coefficient d (scaleV d a (unitV d)) (shiftV d h (remainder p)) (suc k) ∙ ap (λ z. z ⊕ y) (scaled-zeros n a k)))
+        (sum-coefficient R (poly-scaled (ops R) t monicV) (𝟎 ∷ rest) (suc k) ∙ ap (λ z. z ⊕ pw) (scaled-coefficient R t monicV (suc k)))
+        (add-coefficient d (scaleV d a (unitV d)) (shiftV d h (remainder p)) (suc k) ∙ ap (λ z. z ⊕ y) (scaled-zeros n a k)))
         ∙ sym (sum-coefficient R (poly-product (ops R) (t ∷ quotient p) monicV) (list d (remainder (a ∷ p))) (suc k))
 
     only : (p w : List A) (r : V A d) → Divides p w r → r ≡ remainder p

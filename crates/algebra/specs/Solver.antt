@@ -9,7 +9,6 @@ use Rattle.algebra.specs.Ring.{CommRing}
 infixl 65 _:+_ _:-_
 infixl 70 _:*_
 infix 50 _:=_
-
 pub data Ex : Type 0 where
   var : ℕ → Ex
   nil : Ex

@@ -45,10 +45,12 @@ module _ {E : Type 0} {K : CommRing E} where
   horner-more {cs} {x} {i} {v} h some most d m w em ew =
       let below : i - 1 < length cs = omega arith in
       let one-up : suc (i - 1) ≡ i = omega arith in
-      record { is =
-          ew
-          ∙ ap (K ._⊕_ (getD cs (i - 1) d)) (em ∙ ap (K ._⊗_ x) (h .is ∙ ap (λ j. val (ops K) (drop j cs) x) (sym one-up)))
-          ∙ ap (λ l. val (ops K) l x) (sym (drop-cons cs (i - 1) d below)) }
+      record {
+        is =
+            ew
+            ∙ ap (K ._⊕_ (getD cs (i - 1) d)) (em ∙ ap (K ._⊗_ x) (h .is ∙ ap (λ j. val (ops K) (drop j cs) x) (sym one-up)))
+            ∙ ap (λ l. val (ops K) l x) (sym (drop-cons cs (i - 1) d below));
+      }
 
   pub horner-all : {cs : List E} {x : E} {i : ℕ} {v : E} → Horner K cs x i v → i ≤ 0 → v ≡ val (ops K) cs x
   horner-all {cs} {x} {i} h none = let zero-is : i ≡ 0 = omega arith in h .is ∙ ap (λ j. val (ops K) (drop j cs) x) zero-is
@@ -59,18 +61,22 @@ module _ {E : Type 0} {K : CommRing E} where
 
     -- the seat itself has no part
     pub factor-skip : {i j : ℕ} {v : E} → Factor K p u x i j v → j ≡ i → (w : E) → w ≡ v → Factor K p u x i (j + 1) w
-    factor-skip {i} {j} {v} h e w same = record { is =
-        same
-        ∙ h .is
-        ∙ sym (K .mul-one (product-below K j (part K p u x i)))
-        ∙ ap (K ._⊗_ (product-below K j (part K p u x i))) (sym (cond-true (eqb j i) (K .𝟏) (K ._⊗_ (sub K x (p j)) (u i j)) (eq-eqb j i e)))
-        ∙ ap (λ k. product-below K k (part K p u x i)) (sym (add-one j)) }
+    factor-skip {i} {j} {v} h e w same = record {
+      is =
+          same
+          ∙ h .is
+          ∙ sym (K .mul-one (product-below K j (part K p u x i)))
+          ∙ ap (K ._⊗_ (product-below K j (part K p u x i))) (sym (cond-true (eqb j i) (K .𝟏) (K ._⊗_ (sub K x (p j)) (u i j)) (eq-eqb j i e)))
+          ∙ ap (λ k. product-below K k (part K p u x i)) (sym (add-one j));
+    }
 
     pub factor-more : {i j : ℕ} {v : E} → Factor K p u x i j v → (j ≡ i → ⊥) → (b w : E) → b ≡ K ._⊗_ (sub K x (p j)) (u i j) → w ≡ K ._⊗_ v b → Factor K p u x i (j + 1) w
-    factor-more {i} {j} {v} h other b w eb ew = record { is =
-        ew
-        ∙ ap₂ (K ._⊗_) (h .is) (eb ∙ sym (cond-false (eqb j i) (K .𝟏) (K ._⊗_ (sub K x (p j)) (u i j)) (ne-eqb j i other)))
-        ∙ ap (λ k. product-below K k (part K p u x i)) (sym (add-one j)) }
+    factor-more {i} {j} {v} h other b w eb ew = record {
+      is =
+          ew
+          ∙ ap₂ (K ._⊗_) (h .is) (eb ∙ sym (cond-false (eqb j i) (K .𝟏) (K ._⊗_ (sub K x (p j)) (u i j)) (ne-eqb j i other)))
+          ∙ ap (λ k. product-below K k (part K p u x i)) (sym (add-one j));
+    }
 
     pub factor-all : {i j : ℕ} {v : E} (m : ℕ) → Factor K p u x i j v → j ≤ m → m ≤ j → v ≡ factor K m p u x i
     factor-all {i} {j} {v} m h le ge = let same : j ≡ m = omega arith in h .is ∙ ap (λ k. product-below K k (part K p u x i)) same
@@ -80,10 +86,12 @@ module _ {E : Type 0} {K : CommRing E} where
       partial-none v e = record { is = e }
 
       pub partial-more : {i : ℕ} {v : E} → Partial K m p u f x i v → (a b w : E) → a ≡ factor K m p u x i → b ≡ K ._⊗_ (f i) a → w ≡ K ._⊕_ v b → Partial K m p u f x (i + 1) w
-      partial-more {i} {v} h a b w ea eb ew = record { is =
-          ew
-          ∙ ap₂ (K ._⊕_) (h .is) (eb ∙ ap (K ._⊗_ (f i)) ea)
-          ∙ ap (λ k. sum-below K k (λ k. K ._⊗_ (f k) (factor K m p u x k))) (sym (add-one i)) }
+      partial-more {i} {v} h a b w ea eb ew = record {
+        is =
+            ew
+            ∙ ap₂ (K ._⊕_) (h .is) (eb ∙ ap (K ._⊗_ (f i)) ea)
+            ∙ ap (λ k. sum-below K k (λ k. K ._⊗_ (f k) (factor K m p u x k))) (sym (add-one i));
+      }
 
       pub partial-all : {i : ℕ} {v : E} → Partial K m p u f x i v → i ≤ m → m ≤ i → v ≡ lagrange K m p u f x
       partial-all {i} {v} h le ge = let same : i ≡ m = omega arith in h .is ∙ ap (λ k. sum-below K k (λ k. K ._⊗_ (f k) (factor K m p u x k))) same
@@ -98,14 +106,16 @@ module _ {A E : Type 0} (e : A → E) where
   filled-none xs f d = record { at = λ k h. let z : ⊥ = omega arith in absurd z }
 
   pub filled-more : (xs : List A) {f : ℕ → E} {d : E} {i : ℕ} → Filled (map e xs) f d i → i < length xs → (v : A) → e v ≡ f i → Filled (map e (set xs i v)) f d (i + 1)
-  filled-more xs {f} {d} {i} h inside v is = record { at = λ k below.
-      ap (λ l. getD l k d) (map-set xs i v)
-      ∙ elim (cases-eq k i) [
-          inl same ↦
-            let here : i < length (map e xs) = omega (arith, length-map xs e) in
-            ap (λ j. getD (set (map e xs) i (e v)) j d) same ∙ getD-set-same (map e xs) i (e v) d here ∙ is ∙ ap f (sym same)
-        | inr other ↦ let under : k < i = omega arith in getD-set-other (map e xs) i k (e v) d other ∙ h .at k under
-        ] }
+  filled-more xs {f} {d} {i} h inside v is = record {
+    at = λ k below.
+        ap (λ l. getD l k d) (map-set xs i v)
+        ∙ elim (cases-eq k i) [
+          | inl same ↦
+              let here : i < length (map e xs) = omega (arith, length-map xs e) in
+              ap (λ j. getD (set (map e xs) i (e v)) j d) same ∙ getD-set-same (map e xs) i (e v) d here ∙ is ∙ ap f (sym same)
+          | inr other ↦ let under : k < i = omega arith in getD-set-other (map e xs) i k (e v) d other ∙ h .at k under
+        ];
+  }
 
   pub filled-all : (xs : List A) {f : ℕ → E} {d : E} {i : ℕ} (n : ℕ) → Filled (map e xs) f d i → length xs ≡ n → n ≤ i → map e xs ≡ listed n f
   filled-all xs {f} {d} {i} n h long all = go n (map e xs) f (length-map xs e ∙ long) (λ k below. let under : k < i = omega arith in h .at k under)

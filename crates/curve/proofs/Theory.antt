@@ -93,8 +93,8 @@ module _ {R C : Type 0} (G : Ghosts R C) (laws : Point-laws (G .shape) (G .point
   same-values d small row n k hn hk f g tf tg =
       same-value (K G) f g
       (one-through (K G) (d + 1) p u (apart (d + 1) small) (word G row) f g (tf .short) (tg .short)
-        (λ i h. let b : i < n = omega arith in tf .meets i b)
-        (λ i h. let b : i < k = omega arith in tg .meets i b))
+      (λ i h. let b : i < n = omega arith in tf .meets i b)
+      (λ i h. let b : i < k = omega arith in tg .meets i b))
 
   -- Lagrange's sum agrees with the words from place m up to place i
   pub record Agrees (row : List R) (m i : ℕ) : Type 0 where
@@ -105,14 +105,16 @@ module _ {R C : Type 0} (G : Ghosts R C) (laws : Point-laws (G .shape) (G .point
 
   -- one seat more, by what was read and interpolated for it
   pub agrees-more : {row : List R} {m i : ℕ} → Agrees row m i → (x v w : El G) → x ≡ p i → v ≡ lagrange (K G) m p u (word G row) x → w ≡ word G row i → v ≡ w → Agrees row m (i + 1)
-  agrees-more {row} {m} {i} h x v w ex ev ew same = record { at = λ k low high. elim (cases-eq k i) [
-      inl here ↦
-        ap (λ j. lagrange (K G) m p u (word G row) (p j)) here
-        ∙ ap (lagrange (K G) m p u (word G row)) (sym ex)
-        ∙ sym ev ∙ same ∙ ew
-        ∙ ap (word G row) (sym here)
-    | inr other ↦ let below : k < i = omega arith in h .at k low below
-    ] }
+  agrees-more {row} {m} {i} h x v w ex ev ew same = record {
+    at = λ k low high. elim (cases-eq k i) [
+      | inl here ↦
+          ap (λ j. lagrange (K G) m p u (word G row) (p j)) here
+          ∙ ap (lagrange (K G) m p u (word G row)) (sym ex)
+          ∙ sym ev ∙ same ∙ ew
+          ∙ ap (word G row) (sym here)
+      | inr other ↦ let below : k < i = omega arith in h .at k low below
+    ];
+  }
 
   module _ (d : ℕ) (row : List R) (degree : d < length row) (seats : length row < G .points .count) where
     small : d + 1 < G .points .count
@@ -133,9 +135,9 @@ module _ {R C : Type 0} (G : Ghosts R C) (laws : Point-laws (G .shape) (G .point
     line-through n agrees = record {
       short = omega (arith, found .1);
       meets = λ k h. elim (cases-lt k (d + 1)) [
-          inl below ↦ found .2 k below
+        | inl below ↦ found .2 k below
         | inr above ↦ line-value (p k) ∙ agrees .at k above h
-        ];
+      ];
     }
 
     pub opens : (v : El G) → Agrees row (d + 1) (length row) → v ≡ lagrange (K G) (d + 1) p u (word G row) (K G .𝟎) → Opens G d row v
@@ -174,9 +176,9 @@ module _ {R C : Type 0} (G : Ghosts R C) (laws : Point-laws (G .shape) (G .point
     places-agree i j a b =
         a .counted
         ∙ elim (cases-order (a .place) (b .place)) [
-            inl same ↦ ap (λ k. k + 1) same
+          | inl same ↦ ap (λ k. k + 1) same
           | inr apart ↦ elim apart [ inl less ↦ absurd (not-before i j a b less) | inr more ↦ absurd (not-before j i b a more) ]
-          ]
+        ]
         ∙ sym (b .counted)
 
     once : (a b : Opening R) → Answers G d row a → Answers G d row b → Agree G a b
@@ -197,14 +199,14 @@ module _ {R C : Type 0} (G : Ghosts R C) (laws : Point-laws (G .shape) (G .point
     opened-value {i} r x agrees all ex er =
         opened-ok G d row (Value r) taken
         (opens d row degree below (G .element r)
-          (record { at = λ k low high. let under : k < i = omega arith in agrees .at k low under })
-          (er ∙ ap (lagrange (K G) (d + 1) p u (word G row)) ex))
+        (record { at = λ k low high. let under : k < i = omega arith in agrees .at k low under })
+        (er ∙ ap (lagrange (K G) (d + 1) p u (word G row)) ex))
 
     pub opened-fault : {s : ℕ} (x v w : El G) → Agrees row (d + 1) s → d + 1 ≤ s → s < length row → x ≡ p s → v ≡ lagrange (K G) (d + 1) p u (word G row) x → w ≡ word G row s → (v ≡ w → ⊥) → Opened G d row (Ok (Fault (s + 1)))
     opened-fault {s} x v w agrees past inside ex ev ew differ =
         opened-ok G d row (Fault (s + 1)) taken
         (off d row degree below s past inside agrees
-          (λ e. differ (ev ∙ ap (lagrange (K G) (d + 1) p u (word G row)) ex ∙ e ∙ sym ew)))
+        (λ e. differ (ev ∙ ap (lagrange (K G) (d + 1) p u (word G row)) ex ∙ e ∙ sym ew)))
 
   pub opens-once : Opens-once G
   opens-once d row taken = once d row (degree d row taken) (below d row taken)

@@ -42,7 +42,13 @@ fn value_at<R: Ring>(secret: R, others: &[R], x: R) -> R
 }
 
 // Writes the shares of `secret` for n seats: the values of the polynomial `secret` + c1 X + .. at the points 1 to n.
-pub fn deal<R: Ring>(n: usize, degree: usize, secret: R, others: &[R], shares: &mut [R]) -> Result<(), Refusal>
+pub fn deal<R: Ring>(
+    n: usize,
+    degree: usize,
+    secret: R,
+    others: &[R],
+    shares: &mut [R],
+) -> Result<(), Refusal>
     ensures { λ r. ⌜ Dealt R·Ring n degree secret (now (others .entry)) (now (shares .entry)) r (now (shares .exit)) ⌝ }
 {
     tests::<R>(n, degree)?;
@@ -100,11 +106,9 @@ pub fn open_row<R: Ring>(degree: usize, row: &[R]) -> Result<Opening<R>, Refusal
 // A row has one answer at most.
 pub fn openings_are_unique<R: Ring>()
     ensures { λ _. ⌜ Opens-once R·Ring ⌝ }
-{
-}
+{}
 
 // What was dealt comes back when its shares are opened.
 pub fn dealt_values_come_back<R: Ring>()
     ensures { λ _. ⌜ Comes-back R·Ring ⌝ }
-{
-}
+{}

@@ -17,7 +17,7 @@ use Rattle.algebra.proofs.Quotient.{same-element}
 use Rattle.ring.specs.B8.{b8, bits, b8-element, b8-points}
 use Rattle.ring.specs.B8Inverses.{byte-inverses}
 use Rattle.ring.specs.Model.{ring, bit-of, coordinate-of, Point-laws}
-use Rattle.ring.proofs.Tables.{bit-wraps, either, either-right, other-eqb, same-list, same-list-is, every, every-at}
+use Rattle.ring.proofs.Entries.{bit-wraps, either, either-right, other-eqb, same-list, same-list-is, every, every-at}
 
 digit-xor : (x y : ℕ) → x < 2 → y < 2 → bitXor x y ≡ (x + y) % 2
 digit-xor zero y hx hy = sym (ap (λ z. z % 2) (zero-add y) ∙ mod-eq-of-lt hy)
@@ -59,6 +59,9 @@ byte-sum a b = same-element b8 _ _ (bits-xor a b)
 pub byte-difference : (a b : ℕ) → b8-element (bitXor a b) ≡ sub (ring b8) (b8-element a) (b8-element b)
 unfolding ring
 byte-difference a b = same-element b8 _ _ (bits-xor a b ∙ ap (add (modulo 2) (bits a)) (sym (negate-same (bits b) (b8-element b .1 .1))))
+
+pub sum-is-difference : (a b : ℕ) → ring b8 ._⊕_ (b8-element a) (b8-element b) ≡ sub (ring b8) (b8-element a) (b8-element b)
+sum-is-difference a b = sym (byte-sum a b) ∙ byte-difference a b
 
 pub byte-wraps : (i : ℕ) → b8-element (i % 256) ≡ b8-element i
 byte-wraps i =

@@ -26,13 +26,13 @@ module _ (s : Shape) (p : Points s) (laws : Point-laws s p) where
   -- of two equal points the difference is zero, and zero has no inverse
   differ : (i j : ℕ) → i < p .count → j < p .count → p .at i ≡ p .at j → i ≡ j
   differ i j hi hj e = elim (cases-eq i j) [
-      inl same ↦ same
+    | inl same ↦ same
     | inr other ↦
         absurd (not-one
         (sym (ap (λ x. ring s ._⊗_ (sub (ring s) x (p .at j)) (p .inv i j)) e
-          ∙ ring2 (ring s) (λ x u. (x :- x) :* u := nil) (p .at j) (p .inv i j) refl)
+        ∙ ring2 (ring s) (λ x u. (x :- x) :* u := nil) (p .at j) (p .inv i j) refl)
         ∙ laws .inverse i j hi hj other))
-    ]
+  ]
 
   pub ring-laws : Laws s p
   ring-laws = record {

@@ -1,4 +1,4 @@
 pub mod Bytes
 pub mod Laws
-pub mod Tables
+pub mod Entries
 pub mod Words

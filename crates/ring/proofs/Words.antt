@@ -17,7 +17,7 @@ use Rattle.algebra.proofs.Keeps.{Keeps, keeps-poly-product, keeps-product}
 use Rattle.algebra.proofs.Modulo.{Below, numbers, number-keeps}
 use Rattle.algebra.proofs.Quotient.{same-element, reduced-product}
 use Rattle.ring.specs.Model.{ring, Point-laws}
-use Rattle.ring.proofs.Tables.{bit-wraps, either, either-right, other-eqb, same-list, same-list-is, every, every-at}
+use Rattle.ring.proofs.Entries.{bit-wraps, either, either-right, other-eqb, same-list, same-list-is, every, every-at}
 use Rattle.ring.specs.W4.{w4, four, w4-element, w4-point, w4-entry, w4-points, seven}
 
 abbrev Q : ℕ
@@ -134,11 +134,11 @@ pub reduced-is : (s : List ℕ) → Fit7 s → w4-element (reduced-list s) .0 �
 reduced-is s f =
     let xs : List (Below Q) = (getD s 0 0, f .0) ∷ (getD s 1 0, f .1) ∷ (getD s 2 0, f .2) ∷ (getD s 3 0, f .3) ∷ (getD s 4 0, f .4) ∷ (getD s 5 0, f .5) ∷ (getD s 6 0, f .6) ∷ [] in
     (λ i.
-      (mod-mod (getD s 0 0 + (Q - getD s 4 0)) Q ∙ less-plain (getD s 0 0) (getD s 4 0)) i
-      ∷ (mod-mod (less (getD s 1 0) (getD s 4 0) + (Q - getD s 5 0)) Q ∙ less-twice (getD s 1 0) (getD s 4 0) (getD s 5 0)) i
-      ∷ (mod-mod (less (getD s 2 0) (getD s 5 0) + (Q - getD s 6 0)) Q ∙ less-twice (getD s 2 0) (getD s 5 0) (getD s 6 0)) i
-      ∷ (mod-mod (getD s 3 0 + (Q - getD s 6 0)) Q ∙ less-plain (getD s 3 0) (getD s 6 0)) i
-      ∷ [])
+    (mod-mod (getD s 0 0 + (Q - getD s 4 0)) Q ∙ less-plain (getD s 0 0) (getD s 4 0)) i
+    ∷ (mod-mod (less (getD s 1 0) (getD s 4 0) + (Q - getD s 5 0)) Q ∙ less-twice (getD s 1 0) (getD s 4 0) (getD s 5 0)) i
+    ∷ (mod-mod (less (getD s 2 0) (getD s 5 0) + (Q - getD s 6 0)) Q ∙ less-twice (getD s 2 0) (getD s 5 0) (getD s 6 0)) i
+    ∷ (mod-mod (getD s 3 0 + (Q - getD s 6 0)) Q ∙ less-plain (getD s 3 0) (getD s 6 0)) i
+    ∷ [])
     ∙ agree xs fold-code (product expressions monic-low seven-vars (unit expressions monic-low)) fold-check
     ∙ keeps-product expressions (modulo Q) (num xs) (num-keeps xs) monic-low seven-vars (unit expressions monic-low)
 

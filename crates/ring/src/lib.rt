@@ -6,6 +6,7 @@ ghost use Rattle.algebra.specs.Ring.{CommRing, sub};
 ghost use Rattle.ring.specs.Model.{ring, degree, coordinate-of, embedded, Points, Point-laws, Limits, Laws};
 
 pub mod b8;
+mod tables;
 pub mod w4;
 
 // What a coordinate is held in: a number of at most 64 bits.
@@ -102,5 +103,4 @@ pub trait Ring: Copy {
 // The laws that every ring of the engine keeps.
 pub fn ring_laws<R: Ring>()
     ensures { λ _. ⌜ Laws (R·Ring .shape) (R·Ring .points) ⌝ }
-{
-}
+{}

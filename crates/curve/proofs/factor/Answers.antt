@@ -14,11 +14,11 @@ pub loop-j-again : need.loop-j-again
 loop-j-again g c =
     let G = g .R·Ring in
     elim (c .if-j-i .came) [
-      then-j-i w ↦
-        factor-more (c .loop-j .inv) (w .if-j-i .taken) _ _
-        (w .mul .ensures ∙ ap₂ (K G ._⊗_) (w .sub .ensures ∙ ap (sub (K G) (G .element (c .args .x))) (w .point .ensures)) (w .inverse .ensures))
-        (ap (G .element) (w .product-is) ∙ w .mul-product .ensures)
-    | else-j-i w ↦ factor-skip (c .loop-j .inv) (w .if-j-i .left) _ (ap (G .element) (w .product-is))
+      | then-j-i w ↦
+          factor-more (c .loop-j .inv) (w .if-j-i .taken) _ _
+          (w .mul .ensures ∙ ap₂ (K G ._⊗_) (w .sub .ensures ∙ ap (sub (K G) (G .element (c .args .x))) (w .point .ensures)) (w .inverse .ensures))
+          (ap (G .element) (w .product-is) ∙ w .mul-product .ensures)
+      | else-j-i w ↦ factor-skip (c .loop-j .inv) (w .if-j-i .left) _ (ap (G .element) (w .product-is))
     ]
 
 pub returns : need.returns

@@ -6,6 +6,7 @@ use Rattle.ring.proofs.Bytes.{same-byte}
 use Rattle.ring.proofs.b8.B8.same.Needs as need
 
 pub returns : need.returns
-returns c =
-    (λ e. ap b8-element (eqb-true (c .args .self) (c .args .other) e),
-      λ e. eq-eqb (c .args .self) (c .args .other) (same-byte (c .args .self) (c .args .other) (search needs) (search needs) e))
+returns c = (
+  λ e. ap b8-element (eqb-true (c .args .self) (c .args .other) e),
+  λ e. eq-eqb (c .args .self) (c .args .other) (same-byte (c .args .self) (c .args .other) (search needs) (search needs) e),
+)

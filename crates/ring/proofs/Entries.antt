@@ -40,9 +40,9 @@ every (suc n) f = both (f n) (every n f)
 pub every-at : (n : ℕ) (f : ℕ → Bool) → T (every n f) → (k : ℕ) → k < n → T (f k)
 every-at zero f t k h = let z : ⊥ = omega arith in absurd z
 every-at (suc n) f t k h = elim (cases-eq k n) [
-    inl same ↦ subst (λ i. T (f i)) (sym same) (both-left (f n) (every n f) t)
+  | inl same ↦ subst (λ i. T (f i)) (sym same) (both-left (f n) (every n f) t)
   | inr other ↦ let below : k < n = omega arith in every-at n f (both-right (f n) (every n f) t) k below
-  ]
+]
 
 abbrev pub same-list : List ℕ → List ℕ → Bool
 same-list [] [] = true
