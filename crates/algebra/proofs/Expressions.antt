@@ -1,9 +1,9 @@
 -- Definitions over operations, run on the solver's expressions: what they come to holds at all values.
-use mathlib.Core.Path.{_≡_, refl, sym, ap, ap₂, _∙_}
+use mathlib.Core.Path.{_≡_, refl, ap, ap₂, _∙_}
 use mathlib.Core.List.{List, [], _∷_, map}
 use Prim.Native.Nat.{ℕ}
 use Rattle.algebra.specs.Ring.{CommRing, Ops, ops}
-use Rattle.algebra.specs.Solver.{Ex, Identity, _:=_, nil, one, _:+_, _:-_, _:*_, value, Checks}
+use Rattle.algebra.specs.Solver.{Ex, _:=_, nil, one, _:+_, _:-_, _:*_, value, Checks}
 use Rattle.algebra.proofs.Keeps.{Keeps}
 use Rattle.algebra.proofs.Solver.{solver-sound, zero-add}
 

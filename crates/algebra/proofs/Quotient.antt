@@ -1,18 +1,18 @@
 -- Lists of d numbers below q are a commutative ring, and its product is the remainder of the plain one.
 use mathlib.Core.Path.{_≡_, refl, sym, ap, ap₂, subst, subst₂, _∙_}
 use mathlib.Core.HLevel.{Σ-prop-path, ×-prop}
-use mathlib.Core.List.{List, [], _∷_, _++_, map, map-map}
-use Prim.Native.Nat.{ℕ, zero, suc, pred, _+_, _%_, _≤_, _<_}
+use mathlib.Core.List.{List, [], _∷_, _++_, map}
+use Prim.Native.Nat.{ℕ, zero, suc, pred, _≤_}
 use native.Mathlib.Bridge.{le-prop}
 use native.Mathlib.Nat.{mod-eq-of-lt, ℕ-set}
 use native.Mathlib.Omega.{arith}
-use lib.ListN.{length, getD, length-map, List·getD-map}
-use Rattle.algebra.specs.Poly.{Same, coefficient, poly-sum, poly-product}
-use Rattle.algebra.specs.Quotient.{modulo, add, negate, scale, zeros, unit, push, top, shift, product, All-below, Shape, Is, Element, Quotient, Quotient-is-ring, monic, Divides-into, Remainder, Product-is-remainder}
+use lib.ListN.{length, length-map, List·getD-map}
+use Rattle.algebra.specs.Poly.{Same, poly-sum, poly-product}
+use Rattle.algebra.specs.Quotient.{modulo, add, negate, scale, zeros, unit, push, top, shift, product, All-below, Shape, Is, Element, Quotient-is-ring, monic, Remainder, Product-is-remainder}
 use Rattle.algebra.specs.Ring.{CommRing, Ops, ops}
 use Rattle.algebra.proofs.Keeps.{Keeps, onto-ring, keeps-add, keeps-negate, keeps-zeros, keeps-unit, keeps-product, keeps-poly-sum, keeps-poly-product}
 use Rattle.algebra.proofs.Modulo.{Below, below-same, reduce, numbers, number-keeps}
-use Rattle.algebra.proofs.Vector.{V, list, addV, negV, scaleV, zeroV, unitV, pushV, topV, shiftV, act, fit, fit-list, monicV, mulV, ringV, product-whole, product-divides, product-only}
+use Rattle.algebra.proofs.Vector.{V, list, addV, negV, scaleV, zeroV, unitV, pushV, topV, shiftV, act, fit, monicV, mulV, ringV, product-whole, product-divides, product-only}
 
 -- tuples as lists
 module _ {A : Type 0} (R : CommRing A) where

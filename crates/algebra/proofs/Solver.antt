@@ -1,12 +1,12 @@
 -- The ring solver: an identity that checks holds.
 use mathlib.Core.Path.{_≡_, refl, sym, ap, ap₂, _∙_}
-use mathlib.Core.Bool.{Bool, true, false}
+use mathlib.Core.Bool.{true, false}
 use mathlib.Core.List.{List, [], _∷_}
 use Prim.Native.Nat.{ℕ}
-use lib.Dec.{eqb, ltb}
+use lib.Dec.{ltb}
 use lib.ListN.{getD}
-use Rattle.algebra.specs.Ring.{CommRing, sub}
-use Rattle.algebra.specs.Solver.{Ex, Identity, _:=_, var, nil, one, _:+_, _:-_, _:*_, left, right, value, Monomial, Sum, enter, joined, before, insert, plus, times-one, times, Form, form-sum, form-difference, form-product, form, Checks, Solver-sound, Checks-using, Solver-uses}
+use Rattle.algebra.specs.Ring.{CommRing}
+use Rattle.algebra.specs.Solver.{Ex, Identity, _:=_, var, nil, one, _:+_, _:-_, _:*_, left, right, value, Monomial, Sum, enter, joined, before, insert, plus, times-one, times, Form, form, Checks, Solver-sound, Checks-using, Solver-uses}
 
 module _ {A : Type 0} (R : CommRing A) where
   open CommRing R using (𝟎, 𝟏, _⊕_, _⊗_, neg, add-assoc, add-comm, add-zero, add-neg, mul-assoc, mul-comm, mul-one, distrib)

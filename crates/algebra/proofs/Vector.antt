@@ -1,12 +1,12 @@
 -- Tuples of d coefficients over any commutative ring, multiplied modulo a monic polynomial: a commutative ring again.
 use mathlib.Core.Path.{_≡_, refl, sym, ap, ap₂, subst, _∙_}
 use mathlib.Core.List.{List, [], _∷_, _++_}
-use Prim.Native.Nat.{ℕ, zero, suc, _≤_, _<_}
+use Prim.Native.Nat.{ℕ, zero, suc, _≤_}
 use native.Mathlib.Omega.{arith}
-use lib.ListN.{length, getD}
+use lib.ListN.{length}
 use Rattle.algebra.specs.Poly.{coefficient, Same, poly-sum, poly-scaled, poly-product}
 use Rattle.algebra.specs.Ring.{CommRing, ops}
-use Rattle.algebra.specs.Solver.{Ex, Identity, _:=_, nil, one, _:+_, _:-_, _:*_}
+use Rattle.algebra.specs.Solver.{_:=_, nil, one, _:+_, _:-_, _:*_}
 use Rattle.algebra.proofs.Poly.{sum-coefficient, scaled-coefficient}
 use Rattle.algebra.proofs.Solver.{ring1, ring2, ring3, ring4, ring5, using3, mul-zero}
 

@@ -1,10 +1,9 @@
 -- Dealing and opening by the definitions: rows, polynomials and Lagrange's sum.
 use mathlib.Core.Path.{_≡_, refl, sym, ap, ap₂, subst, _∙_}
 use mathlib.Core.Bool.{Bool, true, false, cond, _||_}
-use mathlib.Core.List.{List, [], _∷_, map}
+use mathlib.Core.List.{List, _∷_, map}
 use mathlib.Core.Logic.{inl, inr}
-use Prim.Native.Nat.{ℕ, zero, suc, _+_, _-_, _≤_, _<_}
-use native.Mathlib.Numerals.{add-one}
+use Prim.Native.Nat.{ℕ, zero, suc, _+_, _≤_, _<_}
 use native.Mathlib.Omega.{arith}
 use lib.Dec.{eqb, leb, ltb}
 use lib.ListN.{length, getD, length-map}
@@ -12,15 +11,14 @@ use Rattle.std.specs.declared.option.Option.{Option}
 use Rattle.std.specs.declared.option.Option.the-variants.{Some, None}
 use Rattle.std.specs.declared.result.Result.{Result}
 use Rattle.std.specs.declared.result.Result.the-variants.{Ok, Err}
-use Rattle.std.proofs.shelf.Tests.{cases-eq, cases-lt, cases-order, cond-true, cond-false, eq-eqb, eqb-true, lt-leb, leb-false, or-parts}
-use Rattle.algebra.specs.Poly.{val, Apart, Same, sum-below, factor, lagrange}
-use Rattle.algebra.specs.Quotient.{Element}
-use Rattle.algebra.specs.Ring.{CommRing, ops, sub}
+use Rattle.std.proofs.shelf.Tests.{cases-eq, cases-lt, cases-order, cond-true, eq-eqb, eqb-true, leb-false, or-parts}
+use Rattle.algebra.specs.Poly.{val, Apart, sum-below, factor, lagrange}
+use Rattle.algebra.specs.Ring.{ops}
 use Rattle.algebra.proofs.Interpolation.{some-through, one-through, lagrange-value}
 use Rattle.algebra.specs.Solver.{_:=_, nil, _:+_, _:*_}
 use Rattle.algebra.proofs.Poly.{same-value}
 use Rattle.algebra.proofs.Solver.{ring2}
-use Rattle.ring.specs.Model.{ring, Points, Point-laws}
+use Rattle.ring.specs.Model.{Point-laws}
 use Rattle.ring.specs.declared.Ring.{Ghosts}
 use Rattle.curve.specs.declared.Opening.{Opening}
 use Rattle.curve.specs.declared.Opening.the-variants.{Value, Fault}

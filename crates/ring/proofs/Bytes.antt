@@ -1,18 +1,17 @@
 -- The ring of bytes: exclusive or is the sum, doubling the product with X, and the points.
-use mathlib.Core.Path.{_≡_, refl, sym, ap, ap₂, subst, _∙_}
-use mathlib.Core.Bool.{Bool, true, false, cond}
+use mathlib.Core.Path.{_≡_, refl, sym, ap, ap₂, _∙_}
+use mathlib.Core.Bool.{Bool, cond}
 use mathlib.Core.List.{List, [], _∷_}
 use Prim.Native.Nat.{ℕ, zero, suc, _+_, _-_, _*_, _/_, _%_, _^_, _≤_, _<_}
-use native.Mathlib.Nat.{mod-lt, mod-mod, mod-eq-of-lt, zero-add, one-mul, zero-mul, div-one}
+use native.Mathlib.Nat.{mod-lt, mod-mod, mod-eq-of-lt, zero-add, one-mul, zero-mul}
 use native.Mathlib.Omega.{arith}
 use lib.Bits.{bitAnd, bitXor, xor-self, xor-assoc, xor-zero-l, xor-zero-r}
 use lib.Dec.{T, eqb, eqb→eq, lit≤, lit<}
 use lib.ListN.{length, getD, drop}
 use lib.Seq.{drop-cons}
 use Rattle.std.proofs.shelf.Bits.{and-mask, xor-comm, xor-shr, xor-mod, xor-lt}
-use Rattle.std.proofs.shelf.Tests.{eq-eqb}
-use Rattle.algebra.specs.Quotient.{modulo, add, negate, scale, shift, product, All-below, Element}
-use Rattle.algebra.specs.Ring.{CommRing, sub}
+use Rattle.algebra.specs.Quotient.{modulo, add, negate, scale, shift, product, All-below}
+use Rattle.algebra.specs.Ring.{sub}
 use Rattle.algebra.proofs.Quotient.{same-element}
 use Rattle.ring.specs.B8.{b8, bits, b8-element, b8-points}
 use Rattle.ring.specs.B8Inverses.{byte-inverses}

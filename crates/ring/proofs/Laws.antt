@@ -8,7 +8,7 @@ use native.Mathlib.Omega.{arith}
 use lib.ListN.{length, getD, set}
 use Rattle.std.proofs.shelf.Tests.{cases-eq}
 use Rattle.algebra.specs.Quotient.{Shape, Element, modulo, zeros, unit}
-use Rattle.algebra.specs.Ring.{CommRing, sub}
+use Rattle.algebra.specs.Ring.{sub}
 use Rattle.algebra.specs.Solver.{_:=_, nil, _:+_, _:-_, _:*_}
 use Rattle.algebra.proofs.Quotient.{same-element}
 use Rattle.algebra.proofs.Solver.{ring2}

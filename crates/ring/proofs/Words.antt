@@ -1,16 +1,16 @@
 -- The ring of four 64-bit coordinates: its sums, differences and products as the code makes them, and its points.
 use mathlib.Core.Path.{_≡_, refl, sym, ap, ap₂, _∙_}
-use mathlib.Core.Bool.{Bool, true, false}
+use mathlib.Core.Bool.{Bool}
 use mathlib.Core.List.{List, [], _∷_, map}
-use Prim.Native.Nat.{ℕ, zero, suc, _+_, _-_, _*_, _/_, _%_, _^_, _≤_, _<_}
-use native.Mathlib.Nat.{div-one, mod-lt, mod-mod, mod-eq-of-lt, add-mod, add-mod-mod, mod-add-mod}
+use Prim.Native.Nat.{ℕ, zero, suc, _+_, _-_, _/_, _%_, _^_, _<_}
+use native.Mathlib.Nat.{div-one, mod-lt, mod-mod, mod-eq-of-lt, add-mod, add-mod-mod}
 use native.Mathlib.Omega.{arith}
 use lib.Dec.{T, eqb, lit≤, lit<}
-use lib.ListN.{length, getD}
+use lib.ListN.{getD}
 use Rattle.std.proofs.shelf.Bits.{field-of}
 use Rattle.algebra.specs.Poly.{poly-product}
-use Rattle.algebra.specs.Quotient.{modulo, product, unit, Element}
-use Rattle.algebra.specs.Ring.{CommRing, Ops, ops, sub}
+use Rattle.algebra.specs.Quotient.{modulo, product, unit}
+use Rattle.algebra.specs.Ring.{CommRing, ops, sub}
 use Rattle.algebra.specs.Solver.{Ex, var, nil, one, _:+_, _:-_, _:*_, value}
 use Rattle.algebra.proofs.Expressions.{expressions, value-keeps, keeps-then, Check-all, solve-all}
 use Rattle.algebra.proofs.Keeps.{Keeps, keeps-poly-product, keeps-product}

@@ -1,5 +1,5 @@
 -- The ring of bytes: bits modulo X^8 + X^4 + X^3 + X + 1, with 256 points.
-use mathlib.Core.Path.{_≡_, refl}
+use mathlib.Core.Path.{refl}
 use mathlib.Core.List.{List, [], _∷_}
 use Prim.Native.Nat.{ℕ, _/_, _%_, _^_, _<_}
 use native.Mathlib.Nat.{mod-lt}

@@ -1,5 +1,5 @@
 -- The ring of four 64-bit coordinates modulo X^4 + X + 1, with 16 points.
-use mathlib.Core.Path.{_≡_, refl}
+use mathlib.Core.Path.{refl}
 use mathlib.Core.List.{List, [], _∷_}
 use Prim.Native.Nat.{ℕ, _+_, _*_, _%_, _^_}
 use native.Mathlib.Nat.{mod-lt}

@@ -1,9 +1,9 @@
-use mathlib.Core.Path.{refl, sym, ap, _∙_}
+use mathlib.Core.Path.{ap, _∙_}
 use mathlib.Core.List.{_∷_, map}
 use native.Mathlib.Omega.{arith}
 use Rattle.algebra.specs.Poly.{val}
 use Rattle.algebra.specs.Ring.{ops}
-use Rattle.curve.specs.Curve.{K, share}
+use Rattle.curve.specs.Curve.{K}
 use Rattle.curve.proofs.Loops.{filled-none, filled-more, filled-all}
 use Rattle.curve.proofs.Theory.{deal-taken, dealt-ok, tests-passed}
 use Rattle.curve.proofs.deal.Needs as need

@@ -1,5 +1,4 @@
 use mathlib.Core.Path.{ap, ap₂, _∙_}
-use native.Mathlib.Omega.{arith}
 use Rattle.algebra.specs.Ring.{sub}
 use Rattle.ring.proofs.Laws.{one-is}
 use Rattle.curve.specs.Curve.{K}

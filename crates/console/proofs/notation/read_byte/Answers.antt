@@ -1,5 +1,5 @@
 -- Four bytes of which each is known are the text, and the value's digits are those that were read.
-use mathlib.Core.Path.{_≡_, refl, sym, _∙_, ap}
+use mathlib.Core.Path.{_≡_, sym, _∙_, ap}
 use mathlib.Core.List.{List}
 use Prim.Native.Nat.{ℕ, _+_, _*_, _/_, _%_, _<_}
 use borrow.Author.Needs.{needs}

@@ -1,4 +1,3 @@
-use mathlib.Core.Path.{ap, _∙_}
 use Rattle.ring.proofs.Words.{product-is}
 use Rattle.ring.proofs.w4.W4.mul.Needs as need
 
