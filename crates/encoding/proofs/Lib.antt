@@ -1,0 +1,5 @@
+pub mod Laying
+pub mod Positions
+pub mod Product
+pub mod Search
+pub mod Sound

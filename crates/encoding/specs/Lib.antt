@@ -1,0 +1,4 @@
+pub mod Layouts
+pub mod Encodings
+pub mod Numbers
+pub mod Theorems
