@@ -190,7 +190,7 @@ module _ (s : Shape) where
 abbrev pub ring : (s : Shape) → CommRing (Element s)
 ring s = onto-ring (ringV (Z s) (n s) (hV s)) (element-ops s) (element-of s) (element-keeps s) (λ x. vec s (x .0)) (element-onto s)
 
-pub quotient-is-ring : Quotient-is-ring
+abbrev pub quotient-is-ring : Quotient-is-ring
 quotient-is-ring s = record {
   ring = ring s;
   zero-is = refl;

@@ -5,11 +5,11 @@ use Prim.Native.Nat.{ℕ, _/_, _%_, _^_, _≤_, _<_}
 use lib.ListN.{length, getD, set}
 use Rattle.algebra.specs.Quotient.{Shape, Element, modulo, zeros}
 use Rattle.algebra.specs.Ring.{CommRing, sub}
-use Rattle.algebra.proofs.Quotient as quotient
+use Rattle.algebra.proofs.Quotient.{quotient-is-ring}
 
--- the commutative ring on the lists of d numbers below q
+-- the commutative ring on the lists of d numbers below q, whose operations are those that `Quotient` says
 unfoldable pub ring : (s : Shape) → CommRing (Element s)
-ring = quotient.ring
+ring s = quotient-is-ring s .ring
 
 abbrev pub degree : Shape → ℕ
 degree s = length (s .h)
