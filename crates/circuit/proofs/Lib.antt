@@ -1,1 +1,4 @@
+pub mod Agree
 pub mod Fields
+pub mod Rules
+pub mod Whole

@@ -1,6 +1,9 @@
-// Gate codes.
+// Gate codes, and which gate a list may have next.
 ghost use mathlib.Core.Path.{_≡_};
 ghost use Rattle.circuit.specs.Codes.{parts-of, joined, Codes-come-back, Parts-come-back};
+
+mod gates;
+pub mod lists;
 
 // A gate code taken apart into kind, detail, first and second.
 pub fn split(code: u32) -> (u32, u32, u32, u32)
