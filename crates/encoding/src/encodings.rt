@@ -130,9 +130,9 @@ pub impl Encoding for LanesProduct as LanesEncoding {
 }
 
 // The sum of the lanes' products.
-pub struct InnerProduct;
+pub struct DotProduct;
 
-pub impl Encoding for InnerProduct as InnerEncoding {
+pub impl Encoding for DotProduct as InnerEncoding {
     ghost enc = { inner-product };
 
     fn left() -> Layout {

@@ -1,9 +1,9 @@
 ghost use mathlib.Core.Path.{_≡_};
 ghost use Prim.Native.Nat.{ℕ};
 ghost use Rattle.encoding.specs.Encodings.{Enc, standard};
+use crate::encodings::DotProduct;
 use crate::encodings::Encoding;
 use crate::encodings::InnerEncoding;
-use crate::encodings::InnerProduct;
 use crate::encodings::LanesEncoding;
 use crate::encodings::LanesProduct;
 use crate::encodings::PlainEncoding;
@@ -34,7 +34,7 @@ pub impl Methods for Standard as StandardMethods {
 
     type One = LanesProduct;
 
-    type Two = InnerProduct;
+    type Two = DotProduct;
 
     ghost method = { standard };
 }
