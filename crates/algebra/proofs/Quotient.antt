@@ -12,7 +12,7 @@ use Rattle.algebra.specs.Quotient.{modulo, add, negate, scale, zeros, unit, pu
 use Rattle.algebra.specs.Ring.{CommRing, Ops, ops}
 use Rattle.algebra.proofs.Keeps.{Keeps, onto-ring, keeps-add, keeps-negate, keeps-zeros, keeps-unit, keeps-product, keeps-poly-sum, keeps-poly-product}
 use Rattle.algebra.proofs.Modulo.{Below, below-same, reduce, numbers, number-keeps}
-use Rattle.algebra.proofs.Vector.{V, list, addV, negV, scaleV, zeroV, unitV, pushV, topV, shiftV, act, fit, monicV, mulV, ringV, product-whole, product-divides, product-only}
+use Rattle.algebra.proofs.Vector.{V, list, list-length, addV, negV, scaleV, zeroV, unitV, pushV, topV, shiftV, act, fit, monicV, mulV, ringV, product-whole, product-divides, product-only}
 
 -- tuples as lists
 module _ {A : Type 0} (R : CommRing A) where
@@ -63,7 +63,7 @@ module _ {A : Type 0} (R : CommRing A) where
   list-fit (suc n) [] e = let z : ⊥ = omega arith in absurd z
   list-fit (suc n) (a ∷ p) e = let k : length p ≡ n = omega arith in ap (λ l. a ∷ l) (list-fit n p k)
 
-no-zero : (m : ℕ) → 1 ≤ m → m ≡ suc (pred m)
+pub no-zero : (m : ℕ) → 1 ≤ m → m ≡ suc (pred m)
 no-zero m le = omega arith
 
 pub below-prop : (q : ℕ) (l : List ℕ) → IsProp (All-below q l)
@@ -114,12 +114,8 @@ module _ (s : Shape) where
   all-plain [] = tt
   all-plain (a ∷ l) = (a .1, all-plain l)
 
-  list-long : (m : ℕ) (v : V (Below (s .q)) m) → length (list m v) ≡ m
-  list-long zero v = refl
-  list-long (suc m) v = ap suc (list-long m (v .1))
-
   pub is-nums : (v : V (Below (s .q)) d) → Is s (nums v)
-  is-nums v = (length-map (list d v) plain ∙ list-long d v ∙ sym degree-is, all-plain (list d v))
+  is-nums v = (length-map (list d v) plain ∙ list-length Z d v ∙ sym degree-is, all-plain (list d v))
 
   abbrev hV : V (Below (s .q)) d
   hV = vec (s .h)

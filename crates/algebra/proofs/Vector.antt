@@ -220,7 +220,7 @@ module _ {A : Type 0} (R : CommRing A) where
   fit-list zero v = refl
   fit-list (suc n) v = λ i. (v .0, fit-list n (v .1) i)
 
-  list-length : (n : ℕ) (v : V A n) → length (list n v) ≡ n
+  pub list-length : (n : ℕ) (v : V A n) → length (list n v) ≡ n
   list-length zero v = refl
   list-length (suc n) v = ap suc (list-length n (v .1))
 

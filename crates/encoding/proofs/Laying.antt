@@ -13,12 +13,7 @@ use Rattle.ring.specs.Model.{ring, embedded}
 use Rattle.encoding.specs.Encodings.{lane-products, dot}
 use Rattle.encoding.specs.Layouts.{laid-over, read-at}
 use Rattle.encoding.proofs.Positions.{Apart, laid-off}
-use Rattle.encoding.proofs.Product.{length-add, add-at, at-below}
-
-pub zeros-at : (q : ℕ) (h : List ℕ) (k : ℕ) → getD (zeros (modulo q) h) k 0 ≡ 0
-zeros-at q [] k = refl
-zeros-at q (c ∷ h) zero = refl
-zeros-at q (c ∷ h) (suc k) = zeros-at q h k
+use Rattle.encoding.proofs.Product.{zeros-at, length-add, add-at, at-below}
 
 -- two lists with the same entries are one
 pub same-places : (xs ys : List ℕ) → length xs ≡ length ys → ((k : ℕ) → k < length xs → getD xs k 0 ≡ getD ys k 0) → xs ≡ ys

@@ -20,6 +20,11 @@ pub total-none : (n : ℕ) (f : ℕ → ℕ) → ((i : ℕ) → i < n → f i �
 total-none zero f e = refl
 total-none (suc n) f e = ap₂ (λ x y. x + y) (e 0 (omega arith)) (total-none n (λ i. f (suc i)) (λ i h. let k : suc i < suc n = omega arith in e (suc i) k))
 
+pub zeros-at : (q : ℕ) (h : List ℕ) (k : ℕ) → getD (zeros (modulo q) h) k 0 ≡ 0
+zeros-at q [] k = refl
+zeros-at q (c ∷ h) zero = refl
+zeros-at q (c ∷ h) (suc k) = zeros-at q h k
+
 -- no two coordinates whose places reach n together are both other than 0
 abbrev pub Room : ℕ → List ℕ → List ℕ → Type 0
 Room n u y = (i k : ℕ) → n ≤ i + k → getD u i 0 * getD y k 0 ≡ 0
@@ -127,13 +132,8 @@ module _ (q : ℕ) (pos : 0 < q) where
   pub plain-at : (h u y : List ℕ) (n : ℕ) → length h ≡ suc n → length y ≡ length h → Room (suc n) u y → (k : ℕ) → k < suc n
       → getD (product (modulo q) h u y) k 0 ≡ total (suc k) (terms u y k) % q
   plain-at h [] y n d e room k inside =
-      zeros-at h k
+      zeros-at q h k
       ∙ sym (ap (λ z. z % q) (total-none (suc k) (terms [] y k) (λ i below. zero-mul (getD y (k - i) 0))) ∙ zero-mod q)
-    where
-      zeros-at : (h : List ℕ) (k : ℕ) → getD (zeros (modulo q) h) k 0 ≡ 0
-      zeros-at [] k = refl
-      zeros-at (c ∷ h) zero = refl
-      zeros-at (c ∷ h) (suc k) = zeros-at h k
   plain-at h (a ∷ u) y n d e room k inside =
       let z = product (modulo q) h u y in
       let room-u : Room (suc n) u y = λ i j big. let up : suc n ≤ suc i + j = omega arith in room (suc i) j up in

@@ -11,6 +11,7 @@ use Rattle.std.proofs.shelf.Counted.{length-counting}
 use Rattle.std.proofs.shelf.Tests.{cases-lt}
 use Rattle.std.specs.Iters.{counting}
 use Rattle.algebra.specs.Quotient.{Shape, modulo, zeros, product, All-below}
+use Rattle.algebra.proofs.Quotient.{no-zero}
 use Rattle.algebra.proofs.Modulo.{mod-mul-mod, mul-mod-mod}
 use Rattle.encoding.specs.Encodings.{laid, Sound, plain-product, lane-products, lanes-product, dot, inner-product}
 use Rattle.encoding.specs.Theorems.{Lanes-come-back}
@@ -18,9 +19,9 @@ use Rattle.encoding.specs.Layouts.{half, no-two, positions, read-at}
 use Rattle.encoding.specs.declared.layout.Layout.{Layout}
 use Rattle.encoding.specs.declared.layout.Layout.the-variants.{Plain, Lanes, Left, Right}
 use Rattle.encoding.proofs.Positions.{Apart, All, all-at, rising-apart, rising-counting, rising-kept, all-kept, all-counting, length-laid, laid-at, laid-off, sought, double-of-one}
-use Rattle.encoding.proofs.Laying.{same-places, zeros-at, read-place, products-in, any-default}
+use Rattle.encoding.proofs.Laying.{same-places, read-place, products-in, any-default}
 use Rattle.encoding.proofs.Search.{run-in, back-in, length-back}
-use Rattle.encoding.proofs.Product.{total, total-none, plain-at, Room, terms}
+use Rattle.encoding.proofs.Product.{zeros-at, total, total-none, plain-at, Room, terms}
 
 -- the positions of a layout differ, and each is below half of the degree
 pub record Placed (d : ℕ) (ps : List ℕ) : Type 0 where
@@ -110,9 +111,6 @@ total-one (suc n) f (suc k) h e =
     ap₂ (λ x y. x + y) (e 0 (omega arith) (λ z. let w : ⊥ = omega arith in w))
     (let b : k < n = omega arith in total-one n (λ i. f (suc i)) k b (λ i below other. let up : suc i < suc n = omega arith in e (suc i) up (λ s. let t : i ≡ k = omega arith in other t)))
     ∙ zero-add (f (suc k))
-
-no-zero : (m : ℕ) → 1 ≤ m → m ≡ suc (pred m)
-no-zero m le = omega arith
 
 module _ (s : Shape) where
   pos : 0 < s .q
