@@ -38,11 +38,11 @@ module _ (q : ℕ) (two : 2 ≤ q) where
     neg = λ a. reduce (q - a.0);
     add_assoc = λ a b c. below_same _ _ (mod-add-mod (a.0 + b.0) q c.0 ∙ ap (λ z. z % q) (add_assoc a.0 b.0 c.0) ∙ sym (add-mod-mod a.0 (b.0 + c.0) q));
     add_comm = λ a b. below_same _ _ (ap (λ z. z % q) (add_comm a.0 b.0));
-    add-zero = λ a. below_same _ _ (ap (λ z. z % q) (add-zero a.0) ∙ mod-eq_of_lt a.1);
+    add_zero = λ a. below_same _ _ (ap (λ z. z % q) (add-zero a.0) ∙ mod-eq_of_lt a.1);
     add_neg = λ a. below_same _ _ (let whole : a.0 + (q - a.0) ≡ q = omega (arith, a.1) in add-mod-mod a.0 (q - a.0) q ∙ ap (λ z. z % q) whole ∙ mod_self q);
     mul_assoc = λ a b c. below_same _ _ (mod_mul_mod (a.0 * b.0) c.0 q ∙ ap (λ z. z % q) (mul_assoc a.0 b.0 c.0) ∙ sym (mul_mod_mod a.0 (b.0 * c.0) q));
     mul_comm = λ a b. below_same _ _ (ap (λ z. z % q) (mul_comm a.0 b.0));
-    mul-one = λ a. below_same _ _ (ap (λ z. z % q) (mul-one a.0) ∙ mod-eq_of_lt a.1);
+    mul_one = λ a. below_same _ _ (ap (λ z. z % q) (mul-one a.0) ∙ mod-eq_of_lt a.1);
     distrib = λ a b c. below_same _ _ (mul_mod_mod a.0 (b.0 + c.0) q ∙ ap (λ z. z % q) (mul-add a.0 b.0 c.0) ∙ sym (mod-add-mod (a.0 * b.0) q ((a.0 * c.0) % q) ∙ add-mod-mod (a.0 * b.0) (a.0 * c.0) q));
   }
 

@@ -1,4 +1,6 @@
 // Theory only: each function carries one theorem in its contract and does nothing.
+#![tactic(auto)]
+
 ghost use Rattle.algebra.specs.Poly.{PolyArithmetic, FewRoots, SomeThrough, OneThrough, LagrangeValue};
 ghost use Rattle.algebra.specs.Quotient.{QuotientIsRing, ProductIsRemainder};
 ghost use Rattle.algebra.specs.Solver.{SolverSound, SolverUses};

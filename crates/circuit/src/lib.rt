@@ -1,4 +1,6 @@
 // Gate codes, and which gate a list may have next.
+#![tactic(auto)]
+
 ghost use Rattle.std.specs.Prelude.{◌≡◌};
 ghost use Rattle.circuit.specs.Codes.{parts_of, joined, CodesComeBack, PartsComeBack};
 ghost use Rattle.circuit.specs.Gates.{named_layout};

@@ -1,4 +1,6 @@
 // Theory only: the main claim about a bench of seats. Each function carries one theorem in its contract and does nothing.
+#![tactic(auto)]
+
 ghost use Rattle.claim.specs.Claim.{RefusalsHold, ClaimHolds};
 
 use encoding::methods::Methods;

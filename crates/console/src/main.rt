@@ -1,4 +1,6 @@
 // Reads commands from a file or from standard input, and prints the answer to each on a line.
+#![tactic(auto)]
+
 ghost use Rattle.std.specs.Prelude.{◌≡◌, true, false, ◌≢◌};
 
 mod algebra;

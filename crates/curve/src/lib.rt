@@ -1,3 +1,5 @@
+#![tactic(auto)]
+
 ghost use Rattle.std.specs.Prelude.{◌≡◌, ℕ, ◌+◌, ◌<◌, ◌≤◌, ◌∷◌, map, length};
 ghost use Rattle.algebra.specs.Poly.{val, factor as lagrange_factor, lagrange};
 ghost use Rattle.algebra.specs.Ring.{ops};

@@ -1,4 +1,6 @@
 // What a value looks like inside one ring element, and what one multiplication computes.
+#![tactic(auto)]
+
 ghost use Rattle.std.specs.Prelude.{◌≡◌};
 ghost use Rattle.encoding.specs.Encodings.{Enc, Sound};
 ghost use Rattle.encoding.specs.Theorems.{HalfIsLargest, LanesComeBack};

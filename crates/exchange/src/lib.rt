@@ -1,3 +1,5 @@
+#![tactic(auto)]
+
 ghost use Rattle.std.specs.Prelude.{◌≡◌, ℕ, Bool, true, []};
 ghost use Rattle.exchange.specs.Laws.{SheetLaws};
 ghost use Rattle.exchange.specs.Sheet.{Page, Proper, seat, place_all, place_one, looked, missing as missing_of, turned, set_seats, word_in, row_seen, gather, collected};

@@ -1,4 +1,6 @@
 // One seat: its shares of every gate, the words it shows, and what it makes of the rows it is handed.
+#![tactic(auto)]
+
 ghost use Rattle.std.specs.Prelude.{◌≡◌, ℕ, ◌-◌, map, length, replicate, MatchResult};
 ghost use Rattle.circuit.specs.Circuits.{plan};
 ghost use Rattle.curve.specs.Curve.{K, tested, word as word_at};

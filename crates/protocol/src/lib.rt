@@ -1,4 +1,6 @@
 // Theory only: each function carries one theorem in its contract and does nothing.
+#![tactic(auto)]
+
 ghost use Rattle.protocol.specs.Shares.{SharesCompute, OpeningsOnce, OpeningsSound};
 ghost use Rattle.protocol.specs.Gates.{OpeningsNumbered};
 ghost use Rattle.protocol.specs.Runs.{CurvesHold, RunsSound, OpeningsComplete, TrueWordsExist, TrueWordsOnce, RunsComplete, WordsCausal};

@@ -1,3 +1,5 @@
+#![tactic(auto)]
+
 ghost use Rattle.std.specs.Prelude.{◌≡◌, ℕ, ◌≤◌, true, if◌then◌else◌};
 ghost use Rattle.algebra.specs.Quotient.{Shape, Element};
 ghost use Rattle.algebra.specs.Ring.{CommRing, sub};

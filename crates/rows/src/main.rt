@@ -1,4 +1,6 @@
 // Collects rows by one generic function over each kind of exchange, in both rings, and prints what came.
+#![tactic(auto)]
+
 use curve::refusal::Refusal;
 use exchange::board::Board;
 use exchange::curtain::Curtain;
