@@ -18,12 +18,12 @@ loop-s-preserved g c =
 pub returns-then-not-same : goal.returns-then-not-same
 returns-then-not-same g c =
     let G = g.R.Ring in
-    opened_fault G g.met.R.Ring.pointed c.args.degree c.args.row.now (tests_passed _ c.in-ok-tests.ensures) _ _ _
+    opened_fault G g.met.R.Ring.pointed c.args.degree c.args.row.now (tests_passed _ c.in_ok-tests.ensures) _ _ _
     c.loop-s.invariant c.loop-s.auto.s c.loop-s-test.true c.point.ensures c.interpolated.ensures
     (sym (read_map G.element c.args.row.now c.loop-s.s c.index-row-s.result (K G).𝟎 (omega arith) c.index-row-s.is))
     (λ e. false≢true (c.if-not-same.ensures.1 e))
 
 pub returns : goal.returns
 returns g c =
-    opened_value g.R.Ring g.met.R.Ring.pointed c.args.degree c.args.row.now (tests_passed _ c.in-ok-tests.ensures)
+    opened_value g.R.Ring g.met.R.Ring.pointed c.args.degree c.args.row.now (tests_passed _ c.in_ok-tests.ensures)
     c.interpolated-2.result _ c.loop-s.invariant c.loop-s-test.false c.zero.ensures c.interpolated-2.ensures

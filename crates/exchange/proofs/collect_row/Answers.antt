@@ -8,21 +8,21 @@ use Rattle.exchange.proofs.collect_row.Goals as goal
 seated : (k : ℕ) {n m : ℕ} → n ≡ m → true ≡ seat n k → seat m k ≡ true
 seated k {n} {m} same is = ap (λ j. seat j k) (sym same) ∙ sym is
 
-pub returns-in-err-row : goal.returns-in-err-row
-returns-in-err-row g c =
+pub returns-in_err-row : goal.returns-in_err-row
+returns-in_err-row g c =
     let z : ⊥ =
-    never_lacks g.X.Exchange.veiled (g.X.Exchange.page c.args.exchange.now) c.args.receiver (seated c.args.receiver c.seats-n.ensures c.if-not-is-seat.ensures) c.loop-k.k c.in-err-row.field-0.0
+    never_lacks g.X.Exchange.veiled (g.X.Exchange.page c.args.exchange.now) c.args.receiver (seated c.args.receiver c.seats-n.ensures c.if-not-is-seat.ensures) c.loop-k.k c.in_err-row.field-0.0
     (omega arith)
-    (sym c.in-err-row.was ∙ c.word-seen.ensures)
-    (sym c.in-ok-test-row.was ∙ c.test-row.ensures)
+    (sym c.in_err-row.was ∙ c.word-seen.ensures)
+    (sym c.in_ok-test-row.was ∙ c.test-row.ensures)
     in absurd z
 
 pub loop-k-preserved : goal.loop-k-preserved
 loop-k-preserved g c =
-    filled_more Some c.loop-k.row c.loop-k.invariant (omega arith) c.in-ok-row.field-0
+    filled_more Some c.loop-k.row c.loop-k.invariant (omega arith) c.in_ok-row.field-0
     (sym
-    (seen_there g.X.Exchange.veiled (g.X.Exchange.page c.args.exchange.now) c.args.receiver (seated c.args.receiver c.seats-n.ensures c.if-not-is-seat.ensures) c.loop-k.k c.in-ok-row.field-0 (omega arith)
-    (sym c.in-ok-row.was ∙ c.word-seen.ensures)))
+    (seen_there g.X.Exchange.veiled (g.X.Exchange.page c.args.exchange.now) c.args.receiver (seated c.args.receiver c.seats-n.ensures c.if-not-is-seat.ensures) c.loop-k.k c.in_ok-row.field-0 (omega arith)
+    (sym c.in_ok-row.was ∙ c.word-seen.ensures)))
 
 pub returns : goal.returns
 returns g c =

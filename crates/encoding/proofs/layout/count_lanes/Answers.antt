@@ -6,8 +6,8 @@ use Rattle.encoding.proofs.layout.count_lanes.Goals.{then-lacks-two, else-lacks-
 pub loop-p-init : goal.loop-p-init
 loop-p-init c = seen_none
 
-pub overflow-add-count : goal.overflow-add-count
-overflow-add-count c = let most = c.loop-p.invariant.most in search rules
+pub overflow_add-count : goal.overflow_add-count
+overflow_add-count c = let most = c.loop-p.invariant.most in search rules
 
 pub loop-p-preserved : goal.loop-p-preserved
 loop-p-preserved c =

@@ -3,8 +3,8 @@ use Rattle.exchange.specs.Tables.{empties}
 use Rattle.exchange.proofs.Pages.{board_missing}
 use Rattle.exchange.proofs.board.BoardExchange.missing.Goals as goal
 
-pub overflow-mul-result : goal.overflow-mul-result
-overflow-mul-result g c =
+pub overflow_mul-result : goal.overflow_mul-result
+overflow_mul-result g c =
     let few : c.count-empty.result ≤ 31 = omega arith in
     let small = mul-le-mul c.args.self.now.few few in
     search rules
