@@ -11,21 +11,21 @@ seated k {n} {m} same is = ap (λ j. seat j k) (sym same) ∙ sym is
 pub returns-in_err-row : goal.returns-in_err-row
 returns-in_err-row g c =
     let z : ⊥ =
-    never_lacks g.X.Exchange.veiled (g.X.Exchange.page c.args.exchange.now) c.args.receiver (seated c.args.receiver c.seats-n.ensures c.if-not-is-seat.ensures) c.loop-k.k c.in_err-row.field-0.0
+    never_lacks g.X.Exchange.veiled (g.X.Exchange.page c.args.exchange.now) c.args.receiver (seated c.args.receiver c.seats-n.ensures c.if-not-is_seat.ensures) c.loop-k.k c.in_err-row.field-0.0
     (omega arith)
-    (sym c.in_err-row.was ∙ c.word-seen.ensures)
-    (sym c.in_ok-test-row.was ∙ c.test-row.ensures)
+    (sym c.in_err-row.was ∙ c.word_seen.ensures)
+    (sym c.in_ok-test_row.was ∙ c.test_row.ensures)
     in absurd z
 
 pub loop-k-preserved : goal.loop-k-preserved
 loop-k-preserved g c =
     filled_more Some c.loop-k.row c.loop-k.invariant (omega arith) c.in_ok-row.field-0
     (sym
-    (seen_there g.X.Exchange.veiled (g.X.Exchange.page c.args.exchange.now) c.args.receiver (seated c.args.receiver c.seats-n.ensures c.if-not-is-seat.ensures) c.loop-k.k c.in_ok-row.field-0 (omega arith)
-    (sym c.in_ok-row.was ∙ c.word-seen.ensures)))
+    (seen_there g.X.Exchange.veiled (g.X.Exchange.page c.args.exchange.now) c.args.receiver (seated c.args.receiver c.seats-n.ensures c.if-not-is_seat.ensures) c.loop-k.k c.in_ok-row.field-0 (omega arith)
+    (sym c.in_ok-row.was ∙ c.word_seen.ensures)))
 
 pub returns : goal.returns
 returns g c =
     let x = g.X.Exchange.page c.args.exchange.now in
-    collected_all g.X.Exchange.veiled x c.args.receiver (seated c.args.receiver c.seats-n.ensures c.if-not-is-seat.ensures) c.args.row.now c.loop-k.row (omega arith)
+    collected_all g.X.Exchange.veiled x c.args.receiver (seated c.args.receiver c.seats-n.ensures c.if-not-is_seat.ensures) c.args.row.now c.loop-k.row (omega arith)
     (filled_all Some c.loop-k.row x.seats c.loop-k.invariant (omega arith) (omega arith))

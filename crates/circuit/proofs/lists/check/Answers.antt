@@ -7,17 +7,17 @@ pub loop-gate-preserved : goal.loop-gate-preserved
 loop-gate-preserved g c =
     let S = setting c.args.degree c.args.inputs c.args.constants g.M.Methods.method in (
       worked_more S c.args.codes.now c.loop-gate.invariant.0 c.loop-gate-test.true _ _
-          (c.in-Ok-check-gate.ensures ∙ ap (λ layouts. gate_judged S c.args.codes.now layouts c.loop-gate.gate) c.as-slice.ensures.value)
-          c.push-reserved.ensures.items,
-      omega (arith, c.push-reserved.ensures.len, c.loop-gate.invariant.1),
-      omega (arith, c.push-reserved.ensures.capacity, c.loop-gate.invariant.2),
+          (c.in-Ok-check_gate.ensures ∙ ap (λ layouts. gate_judged S c.args.codes.now layouts c.loop-gate.gate) c.as_slice.ensures.value)
+          c.push_reserved.ensures.items,
+      omega (arith, c.push_reserved.ensures.len, c.loop-gate.invariant.1),
+      omega (arith, c.push_reserved.ensures.capacity, c.loop-gate.invariant.2),
     )
 
 pub returns-in-Err : goal.returns-in-Err
 returns-in-Err g c =
     let S = setting c.args.degree c.args.inputs c.args.constants g.M.Methods.method in
     inl (worked_not S c.args.codes.now c.loop-gate.invariant.0 c.loop-gate-test.true _
-    (c.in-Err.ensures ∙ ap (λ layouts. gate_judged S c.args.codes.now layouts c.loop-gate.gate) c.as-slice.ensures.value))
+    (c.in-Err.ensures ∙ ap (λ layouts. gate_judged S c.args.codes.now layouts c.loop-gate.gate) c.as_slice.ensures.value))
 
 pub returns : goal.returns
 returns g c =

@@ -12,10 +12,10 @@ text_of s h l hs ls n e0 e1 e2 e3 =
 
 pub returns-in_ok-hexadecimal-2 : goal.returns-in_ok-hexadecimal-2
 returns-in_ok-hexadecimal-2 c =
-    let s : List ℕ = c.as-bytes.result.now in
+    let s : List ℕ = c.as_bytes.result.now in
     let n : length s ≡ 4 = search rules in
     let e0 : get_or s 0 0 ≡ 48 = search rules in
     let e1 : get_or s 1 0 ≡ 120 = search rules in
     let high = c.in_ok-hexadecimal.ensures in
     let low = c.in_ok-hexadecimal-2.ensures in
-    sym c.as-bytes.ensures.value ∙ text_of s _ _ high.0 low.0 n e0 e1 high.1 low.1
+    sym c.as_bytes.ensures.value ∙ text_of s _ _ high.0 low.0 n e0 e1 high.1 low.1

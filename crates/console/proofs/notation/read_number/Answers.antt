@@ -11,6 +11,6 @@ no_plus bs r d f e = let t : r ≡ true = d.1 e in let z : ◌≡◌ {A = ℕ} 0
 pub returns-in-Ok : goal.returns-in-Ok
 returns-in-Ok c =
     let bs : List ℕ = c.args.word.now in
-    let d = starts_char 43 bs c.starts-with.result c.starts-with.ensures.cases (lit< tt) (lit< tt) in
-    let whole : without_leading_plus bs ≡ bs = without_leading_plus_none bs (no_plus bs c.starts-with.result d c.if-starts-with.false) in
+    let d = starts_char 43 bs c.starts_with.result c.starts_with.ensures.cases (lit< tt) (lit< tt) in
+    let whole : without_leading_plus bs ≡ bs = without_leading_plus_none bs (no_plus bs c.starts_with.result d c.if-starts_with.false) in
     rw whole at c.in-Ok.ensures.value.0

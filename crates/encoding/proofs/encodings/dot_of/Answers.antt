@@ -9,7 +9,7 @@ pub loop-l-preserved : goal.loop-l-preserved
 loop-l-preserved g c =
     dotted_more c.args.left.now c.args.right.now c.loop-l.invariant
     (omega (arith, c.loop-l-test.true, c.min-l-end.ensures)) (omega (arith, c.loop-l-test.true, c.min-l-end.ensures))
-    _ _ c.product-of.ensures c.sum-of-sum.ensures
+    _ _ c.product_of.ensures c.sum_of-sum.ensures
 
 pub returns : goal.returns
 returns g c = dotted_all c.args.left.now c.args.right.now c.loop-l.invariant (omega (arith, c.loop-l-test.false, c.min-l-end.ensures))

@@ -11,7 +11,7 @@ loop-l-init g c =
     let s = g.R.Ring.shape in
     laid_start s (positions c.args.layout (degree s)) c.args.lanes.now _ c.min-count.result c.zero-sum.ensures
     (c.min-count.ensures
-    ∙ ap (λ k. min k (length c.args.lanes.now)) (c.lane-count.ensures ∙ ap (λ d. length (positions c.args.layout d)) c.coordinate-count-coordinates.ensures))
+    ∙ ap (λ k. min k (length c.args.lanes.now)) (c.lane_count.ensures ∙ ap (λ d. length (positions c.args.layout d)) c.coordinate_count-coordinates.ensures))
 
 pub loop-l-preserved : goal.loop-l-preserved
 loop-l-preserved g c =
@@ -24,10 +24,10 @@ loop-l-preserved g c =
       arith,
       c.loop-l.auto.l,
       c.min-count.ensures
-          ∙ ap (λ k. min k (length c.args.lanes.now)) (c.lane-count.ensures ∙ ap (λ d. length (positions c.args.layout d)) c.coordinate-count-coordinates.ensures),
+          ∙ ap (λ k. min k (length c.args.lanes.now)) (c.lane_count.ensures ∙ ap (λ d. length (positions c.args.layout d)) c.coordinate_count-coordinates.ensures),
     ))
     c.loop-l.invariant refl
-    (c.position.ensures ∙ ap (λ d. get_or (positions c.args.layout d) (c.loop-l.l - 1) d) c.coordinate-count-coordinates.ensures)
+    (c.position.ensures ∙ ap (λ d. get_or (positions c.args.layout d) (c.loop-l.l - 1) d) c.coordinate_count-coordinates.ensures)
     c.embed.ensures c.add-sum.ensures
 
 pub returns : goal.returns

@@ -10,5 +10,5 @@ returns g c =
     let x = G.element c.args.value in
     c.wide.ensures
     ∙ c.coordinate.ensures
-    ∙ ap (λ p. get_or x.0 p 0) (c.position-position.ensures ∙ ap (λ d. get_or (positions c.args.layout d) c.args.lane d) c.coordinate-count.ensures)
+    ∙ ap (λ p. get_or x.0 p 0) (c.position-position.ensures ∙ ap (λ d. get_or (positions c.args.layout d) c.args.lane d) c.coordinate_count.ensures)
     ∙ read_lane_is (positions c.args.layout (degree G.shape)) x.0 (degree G.shape) c.args.lane x.1.0

@@ -13,8 +13,8 @@ use Rattle.node.proofs.Node.make.Goals as goal
 pub returns-in-Err : goal.returns-in-Err
 returns-in-Err g c = record {
   why = inr (
-    tests_passed _ c.in_ok-making-tests.ensures,
-    subst (λ d. Refused (setting d (length c.args.lent.inputs.now) (length c.args.lent.constants.now) g.M.Methods.method) c.args.codes.now c.in-Err.refusal) c.coordinate-count-coordinates.ensures c.in-Err.ensures,
+    tests_passed _ c.in_ok-making_tests.ensures,
+    subst (λ d. Refused (setting d (length c.args.lent.inputs.now) (length c.args.lent.constants.now) g.M.Methods.method) c.args.codes.now c.in-Err.refusal) c.coordinate_count-coordinates.ensures c.in-Err.ensures,
   );
   same = refl;
 }
@@ -25,8 +25,8 @@ returns g c =
     let codes = c.args.codes.now in
     let inputs = c.args.lent.inputs.now in
     let constants = c.args.lent.constants.now in
-    let passed = tests_passed _ c.in_ok-making-tests.ensures in
-    let planned = ap (λ d. circuit_of (setting d (length inputs) (length constants) g.M.Methods.method) codes) (sym c.coordinate-count-coordinates.ensures) ∙ c.in-Ok.ensures in
+    let passed = tests_passed _ c.in_ok-making_tests.ensures in
+    let planned = ap (λ d. circuit_of (setting d (length inputs) (length constants) g.M.Methods.method) codes) (sym c.coordinate_count-coordinates.ensures) ∙ c.in-Ok.ensures in
     record {
       taken = passed;
       seats = refl;

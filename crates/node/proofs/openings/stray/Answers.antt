@@ -8,4 +8,4 @@ pub returns : goal.returns
 returns g c =
     let s = g.R.Ring.shape in
     let x = g.R.Ring.element c.args.value in
-    strays s c.args.layout x _ (subst (λ y. Differ (degree s) x.0 y.0 c.first-difference.result) c.seen-through.ensures c.first-difference.ensures)
+    strays s c.args.layout x _ (subst (λ y. Differ (degree s) x.0 y.0 c.first_difference.result) c.seen_through.ensures c.first_difference.ensures)

@@ -9,5 +9,5 @@ pub returns : goal.returns
 returns g c =
     let e = g.R.Ring.element in
     worked_by (K g.R.Ring) (known g.R.Ring.shape g.M.Methods.method c.args.constants.now) (vec_items c.args.circuit.now.codes) (vec_items c.args.circuit.now.layouts) (word g.R.Ring c.args.inputs.now)
-    (map e c.args.work.now) _ c.args.gate c.gate.result c.layout.result (e c.args.opened.value) (e c.args.opened.low) (e c.entry-of-entry.result)
-    c.gate.ensures c.layout.ensures c.entry-of-entry.ensures (ap (map e) c.put.ensures ∙ map_set e c.args.work.now c.args.gate c.entry-of-entry.result)
+    (map e c.args.work.now) _ c.args.gate c.gate.result c.layout.result (e c.args.opened.value) (e c.args.opened.low) (e c.entry_of-entry.result)
+    c.gate.ensures c.layout.ensures c.entry_of-entry.ensures (ap (map e) c.put.ensures ∙ map_set e c.args.work.now c.args.gate c.entry_of-entry.result)

@@ -10,7 +10,7 @@ returns g c =
     let s = g.R.Ring.shape in
     let layout = c.args.layout in
     let n = length (positions layout (degree s)) in
-    value_by s layout _ (replicate 16 c.args.number) (replicate n c.args.number) c.lay-out.ensures
+    value_by s layout _ (replicate 16 c.args.number) (replicate n c.args.number) c.lay_out.ensures
     (omega (arith, few_lanes layout (degree s) s.some, g.met.R.Ring.limits.short)) (omega (arith, length-replicate n c.args.number))
     (λ l h.
     let low : l < 16 = omega (arith, few_lanes layout (degree s) s.some, g.met.R.Ring.limits.short) in

@@ -9,4 +9,4 @@ returns g c =
     let s = g.R.Ring.shape in
     let E = g.E.Encoding.enc in
     read_value s E.out (E.read (degree s)) (g.R.Ring.element c.args.product) _ g.met.R.Ring.limits.short (g.met.E.Encoding.sound.one_each (degree s) s.some)
-    (c.lay-out.ensures ∙ ap₂ (laid s) c.out.ensures c.read-product.ensures)
+    (c.lay_out.ensures ∙ ap₂ (laid s) c.out.ensures c.read_product.ensures)

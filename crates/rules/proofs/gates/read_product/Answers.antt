@@ -9,8 +9,8 @@ loop-lane-preserved g c =
     let d = degree g.R.Ring.shape in
     let x = g.R.Ring.element c.args.product in
     filled_more (λ v. v) c.loop-lane.lanes c.loop-lane.invariant (omega (arith, c.loop-lane-test.true)) c.wide.result
-    (read_lane (g.E.Encoding.enc.read d) x.0 d c.loop-lane.lane c.read-position-position.result c.wide.result x.1.0
-    (c.read-position-position.ensures ∙ ap (λ n. get_or (g.E.Encoding.enc.read n) c.loop-lane.lane n) c.coordinate-count.ensures)
+    (read_lane (g.E.Encoding.enc.read d) x.0 d c.loop-lane.lane c.read_position-position.result c.wide.result x.1.0
+    (c.read_position-position.ensures ∙ ap (λ n. get_or (g.E.Encoding.enc.read n) c.loop-lane.lane n) c.coordinate_count.ensures)
     (c.wide.ensures ∙ c.coordinate.ensures))
 
 pub returns : goal.returns

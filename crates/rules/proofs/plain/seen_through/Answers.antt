@@ -9,4 +9,4 @@ pub returns : goal.returns
 returns g c =
     let s = g.R.Ring.shape in
     let layout = c.args.layout in
-    read_value s layout (positions layout (degree s)) (g.R.Ring.element c.args.value) _ g.met.R.Ring.limits.short refl (c.lay-out.ensures ∙ ap (laid s layout) c.read-lanes.ensures)
+    read_value s layout (positions layout (degree s)) (g.R.Ring.element c.args.value) _ g.met.R.Ring.limits.short refl (c.lay_out.ensures ∙ ap (laid s layout) c.read_lanes.ensures)

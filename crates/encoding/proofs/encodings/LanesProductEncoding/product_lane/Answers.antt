@@ -9,5 +9,5 @@ returns-then-lane-left g c =
 
 pub returns : goal.returns
 returns g c =
-    c.product-of.ensures
+    c.product_of.ensures
     ∙ sym (products_in g.R.Ring.shape.q c.args.left.now c.args.right.now c.args.lane c.if-lane-left.false c.if-lane-right.false)

@@ -6,7 +6,7 @@ use Rattle.encoding.proofs.layout.Layout.lane_count.Goals as goal
 
 pub returns-in-Left : goal.returns-in-Left
 returns-in-Left c =
-    c.half-of-in-Left.ensures
+    c.half_of-in-Left.ensures
     ∙ elim c.in-Left.is [
       | inl left ↦ sym (ap (λ s. length (positions s c.args.degree)) left ∙ length-range_with_len 0 (half c.args.degree))
       | inr right ↦ sym (ap (λ s. length (positions s c.args.degree)) right ∙ length_back (half c.args.degree))

@@ -5,11 +5,11 @@ use Rattle.exchange.proofs.board.BoardExchange.missing.Goals as goal
 
 pub overflow_mul-result : goal.overflow_mul-result
 overflow_mul-result g c =
-    let few : c.count-empty.result ≤ 31 = omega arith in
+    let few : c.count_empty.result ≤ 31 = omega arith in
     let small = mul-le-mul c.args.self.now.few few in
     search rules
 
 pub returns : goal.returns
 returns g c =
-    ap (λ k. c.args.self.now.seats * k) (c.count-empty.ensures.sum ∙ ap (λ l. empties l c.args.self.now.seats) c.deref.ensures.value)
+    ap (λ k. c.args.self.now.seats * k) (c.count_empty.ensures.sum ∙ ap (λ l. empties l c.args.self.now.seats) c.deref.ensures.value)
     ∙ board_missing c.args.self.now.seats c.args.self.now.table.items

@@ -7,14 +7,14 @@ use Rattle.exchange.proofs.Places.{row_within}
 use Rattle.exchange.proofs.lines.LinesExchange.place_for_all.Goals as goal
 
 pub place-requires : goal.place-requires
-place-requires g c = omega (arith, row_within c.args.self.now.seats c.args.sender (sym c.if-not-is-seat.ensures))
+place-requires g c = omega (arith, row_within c.args.self.now.seats c.args.sender (sym c.if-not-is_seat.ensures))
 
 pub returns : goal.returns
 returns g c =
     let n = c.args.self.now.seats in
     let s = c.args.sender in
     ap (λ l. (c.place.result, lines_page n l)) (with_items_is c.args.self.now.table c.place.new.table (omega arith))
-    ∙ lines_all n s c.deref-mut.result.now c.place.new.table _ c.args.word c.place.result (sym c.if-not-is-seat.ensures) (omega arith)
-    c.place-of-start.ensures.is
+    ∙ lines_all n s c.deref-mut.result.now c.place.new.table _ c.args.word c.place.result (sym c.if-not-is_seat.ensures) (omega arith)
+    c.place_of-start.ensures.is
     c.place.ensures
     ∙ ap (λ l. place_all (lines_page n l) s c.args.word) c.deref-mut.ensures.value
