@@ -14,7 +14,7 @@ loop-gate-preserved c = elim c.if-kind-eq6.branch [
     omega (arith, c.loop-gate.invariant.1, ap vec_capacity w.openings-is, w.push_reserved-then-kind-eq7.ensures.capacity),
   )
   | else-kind-eq6+else-kind-eq7 w ↦ (
-    found_other c.loop-gate.invariant.0 _ c.split-kind.ensures _ _ _ (ap vec_items w.openings-is) w.pair-is w.number-is _ refl (omega (arith, ap (λ q. q.0) c.split-kind.ensures, c.type-inv.codes c.loop-gate.gate, w.if-kind-eq6.false, w.if-kind-eq7.false)),
+    found_other c.loop-gate.invariant.0 _ c.split-kind.ensures _ _ _ (ap vec_items w.openings-is) w.pair-is w.number-is _ refl (omega (arith, ap (λ q. q.0) c.split-kind.ensures, c.type_inv.codes c.loop-gate.gate, w.if-kind-eq6.false, w.if-kind-eq7.false)),
     omega (arith, c.loop-gate.invariant.1, ap vec_capacity w.openings-is),
   )
 ]
