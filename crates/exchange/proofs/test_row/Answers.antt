@@ -5,7 +5,7 @@ use Rattle.exchange.proofs.test_row.Goals as goal
 
 pub returns-in_err-word_seen : goal.returns-in_err-word_seen
 returns-in_err-word_seen g c =
-    let p = err_from_is_err_and c.from-residual.result c.from-residual.ensures.1 in
+    let p = err_from_is_err_and c.from_residual.result c.from_residual.ensures.1 in
     p.1
     ∙ ap Err p.2
     ∙ row_lacks g.X.Exchange.veiled (g.X.Exchange.page c.args.exchange.now) c.args.receiver c.requires c.loop-k.k c.in_err-word_seen.field-0.0

@@ -18,5 +18,5 @@ loop-gate-preserved g c = (
 pub returns : goal.returns
 returns g c =
     values_are g.R.Ring g.M.Methods.method
-    (methods_sound g.M.Methods.method _ _ _ g.met.M.Methods.first g.met.M.Methods.second g.met.M.Methods.third g.met.Zero.Encoding.sound g.met.One.Encoding.sound g.met.Two.Encoding.sound)
+    (methods_sound g.M.Methods.method _ _ _ g.met.M.Methods.first g.met.M.Methods.second g.met.M.Methods.third g.met.M.Zero.Encoding.sound g.met.M.One.Encoding.sound g.met.M.Two.Encoding.sound)
     _ _ _ _ _ _ _ _ c.codes-codes.ensures c.layouts-layouts.ensures (sym c.if-not-counts_fit.ensures) c.loop-gate.invariant.0 c.loop-gate.auto.gate-end c.loop-gate-test.false

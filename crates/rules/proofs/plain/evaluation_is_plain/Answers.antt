@@ -4,5 +4,5 @@ use Rattle.rules.proofs.plain.evaluation_is_plain.Goals as goal
 pub returns : goal.returns
 returns g c =
     evaluation_is_plain g.M.Methods.method
-    (methods_sound g.M.Methods.method _ _ _ g.met.M.Methods.first g.met.M.Methods.second g.met.M.Methods.third g.met.Zero.Encoding.sound g.met.One.Encoding.sound g.met.Two.Encoding.sound)
+    (methods_sound g.M.Methods.method _ _ _ g.met.M.Methods.first g.met.M.Methods.second g.met.M.Methods.third g.met.M.Zero.Encoding.sound g.met.M.One.Encoding.sound g.met.M.Two.Encoding.sound)
     g.R.Ring.shape

@@ -14,7 +14,7 @@ returns g c =
     let n = c.args.self.now.seats in
     let s = c.args.sender in
     ap (λ l. (c.place.result, lines_page n l)) (with_items_is c.args.self.now.table c.place.new.table (omega arith))
-    ∙ lines_all n s c.deref-mut.result.now c.place.new.table _ c.args.word c.place.result (sym c.if-not-is_seat.ensures) (omega arith)
+    ∙ lines_all n s c.deref_mut.result.now c.place.new.table _ c.args.word c.place.result (sym c.if-not-is_seat.ensures) (omega arith)
     c.place_of-start.ensures.is
     c.place.ensures
-    ∙ ap (λ l. place_all (lines_page n l) s c.args.word) c.deref-mut.ensures.value
+    ∙ ap (λ l. place_all (lines_page n l) s c.args.word) c.deref_mut.ensures.value

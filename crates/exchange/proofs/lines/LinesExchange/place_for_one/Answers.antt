@@ -11,8 +11,8 @@ returns g c =
     let s = c.args.sender in
     let t = c.args.receiver in
     ap (λ l. (c.place.result, lines_page n l)) (with_items_is c.args.self.now.table c.place.new.table (omega arith))
-    ∙ lines_one n s t c.deref-mut.result.now c.place.new.table _ c.args.word c.place.result (sym c.if-not-is_seat.ensures) (sym c.if-not-is_seat-2.ensures)
+    ∙ lines_one n s t c.deref_mut.result.now c.place.new.table _ c.args.word c.place.result (sym c.if-not-is_seat.ensures) (sym c.if-not-is_seat-2.ensures)
     (omega arith)
     c.place_of-start.ensures.is
     c.place.ensures
-    ∙ ap (λ l. place_one false (lines_page n l) s t c.args.word) c.deref-mut.ensures.value
+    ∙ ap (λ l. place_one false (lines_page n l) s t c.args.word) c.deref_mut.ensures.value
