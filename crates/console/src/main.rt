@@ -17,12 +17,9 @@ use session::Session;
 use std::fs::File;
 use std::io;
 use std::io::{BufRead, BufReader};
+use std::process::ExitCode;
 use trouble::{Misread, Trouble};
 use words::{Words, command_of};
-
-// The process ends with status 1.
-#[derive(Drop)]
-struct Failed;
 
 // A run over one input, and whether each of its lines was understood so far.
 #[derive(Drop)]
@@ -32,13 +29,13 @@ struct Console {
     understood: bool,
 }
 
-fn main(rt: HostRuntime) -> Result<(), Failed> {
+fn main(rt: HostRuntime) -> ExitCode {
     match run(&rt) {
-        Ok(true) => Ok(()),
-        Ok(false) => Err(Failed),
+        Ok(true) => ExitCode::SUCCESS,
+        Ok(false) => ExitCode::FAILURE,
         Err(stopped) => {
             let _ = eprintln!(rt; "console: {stopped}");
-            Err(Failed)
+            ExitCode::FAILURE
         }
     }
 }

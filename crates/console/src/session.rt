@@ -13,7 +13,7 @@ use std::alloc::Global;
 #[derive(Clone, Copy)]
 pub(crate) enum Chosen {
     W4,
-    u8,
+    B8,
 }
 
 #[derive(Drop)]

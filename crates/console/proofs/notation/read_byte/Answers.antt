@@ -10,12 +10,12 @@ text_of s h l hs ls n e0 e1 e2 e3 =
     let m : l ≡ (h * 16 + l) % 16 = omega arith in
     text_from_reads s (byte_text (h * 16 + l)) n (e0, (e1, (sym e2 ∙ ap digit_code q, (sym e3 ∙ ap digit_code m, tt))))
 
-pub returns-in_ok-hexadecimal-2 : goal.returns-in_ok-hexadecimal-2
-returns-in_ok-hexadecimal-2 c =
+pub returns-in_ok-hexadecimal-in-48-2 : goal.returns-in_ok-hexadecimal-in-48-2
+returns-in_ok-hexadecimal-in-48-2 c =
     let s : List ℕ = c.as_bytes.result.now in
     let n : length s ≡ 4 = search rules in
     let e0 : get_or s 0 0 ≡ 48 = search rules in
     let e1 : get_or s 1 0 ≡ 120 = search rules in
-    let high = c.in_ok-hexadecimal.ensures in
-    let low = c.in_ok-hexadecimal-2.ensures in
+    let high = c.in_ok-hexadecimal-in-48.ensures in
+    let low = c.in_ok-hexadecimal-in-48-2.ensures in
     sym c.as_bytes.ensures.value ∙ text_of s _ _ high.0 low.0 n e0 e1 high.1 low.1
