@@ -2,7 +2,7 @@
 use Rattle.std.proofs.Common.{◌≡◌, ℕ, zero, suc, ◌+◌, ◌<◌, ◌≤◌, List, [], ◌∷◌, ◌++◌, length, get_or, sym, refl, ap, ◌∙◌, ap₂, add-zero, add-one, arith, length-append}
 use Rattle.std.proofs.lemmas.List.{append-nil}
 use Rattle.circuit.specs.Codes.{Parts, parts_of}
-use Rattle.circuit.specs.Kinds.{Gate, In, Add, Sub, Scale, Offset, Place, Mul, Out, gate_by, gate_at}
+use Rattle.circuit.specs.Kinds.{Gate, Mul, Out, gate_by, gate_at}
 use Rattle.circuit.specs.Openings.{product_count, output_count, products, outputs, opening_by, openings_before, openings_of}
 use Rattle.circuit.specs.declared.openings.Opening.{Opening}
 use Rattle.circuit.specs.declared.openings.Opening.TheVariants.{Product, Output}

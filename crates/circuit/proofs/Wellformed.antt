@@ -1,15 +1,14 @@
 -- Every gate of a list that is taken fits.
-use Rattle.std.proofs.Common.{◌≡◌, ℕ, zero, suc, ◌+◌, ◌<◌, ◌≤◌, Bool, true, false, cond, not, ◌&&◌, ◌||◌, eqb, ltb, ◌⊎◌, List, [], ◌∷◌, ◌++◌, length, get_or, take, Some, None, Ok, Err, Option, Result, sym, refl, ap, ◌∙◌, subst, inl, inr, add-zero, zero-add, add-one, arith, length-append}
+use Rattle.std.proofs.Common.{◌≡◌, ℕ, zero, suc, ◌+◌, ◌<◌, ◌≤◌, Bool, true, false, cond, not, ◌&&◌, eqb, ltb, List, [], ◌∷◌, ◌++◌, length, get_or, take, Some, Ok, Err, Result, sym, refl, ap, ◌∙◌, inl, inr, add-zero, zero-add, add-one, arith, length-append}
 use Rattle.std.proofs.lemmas.Bool.{and_parts, ltb-true, eqb-true, eq-eqb, cases_eq}
 use Rattle.curve.specs.declared.refusal.Refusal.{Refusal}
 use Rattle.curve.specs.declared.refusal.Refusal.TheVariants.{Length}
-use Rattle.encoding.specs.Layouts.{positions}
 use Rattle.encoding.specs.Numbers.{layout_of, number_of}
 use Rattle.encoding.specs.declared.layout.Layout.{Layout}
 use Rattle.encoding.specs.declared.layout.Layout.TheVariants.{Plain, Lanes, Left, Right}
-use Rattle.circuit.specs.Gates.{Setting, kind_of, detail_of, first_of, second_of, operand, layout_at, same_layout, named_layout, judged, rule, gate_judged}
-use Rattle.circuit.specs.Kinds.{gate_by, gate_at}
-use Rattle.circuit.specs.Lists.{check_from, lengths_wrong, list_checked}
+use Rattle.circuit.specs.Gates.{Setting, kind_of, detail_of, first_of, second_of, operand, layout_at, same_layout, judged, rule, gate_judged}
+use Rattle.circuit.specs.Kinds.{gate_by}
+use Rattle.circuit.specs.Lists.{check_from, lengths_wrong}
 use Rattle.circuit.specs.Wellformed.{Operand, Fits, TakenListsFit}
 
 no_err : {A : Type 0} {e : Refusal} {x : A} → Err e ≡ Ok x → ⊥

@@ -1,5 +1,5 @@
 -- On a common exchange all inside seats accept, or none does.
-use Rattle.std.proofs.Common.{◌≡◌, ℕ, zero, suc, ◌<◌, Bool, true, false, cond, not, ◌&&◌, ◌⊎◌, Some, None, Option, sym, refl, ap, ◌∙◌, subst, ap₂, inl, inr, arith}
+use Rattle.std.proofs.Common.{◌≡◌, ℕ, zero, suc, ◌<◌, Bool, true, false, cond, ◌&&◌, ◌⊎◌, Some, None, Option, sym, refl, ap, ◌∙◌, subst, ap₂, inl, inr, arith}
 use Rattle.std.proofs.lemmas.Bool.{and_parts, and_left, and_right, cases_Bool}
 use Rattle.ring.specs.Model.{PointLaws}
 use Rattle.ring.specs.declared.Ring.{Ghosts}
@@ -10,7 +10,7 @@ use Rattle.rules.specs.Rules.{Parts}
 use Rattle.protocol.specs.Shares.{count}
 use Rattle.exchange.specs.Sheet.{seat, some, total}
 use Rattle.claim.specs.Bench.{Setup, State, Call, Post, TellAll, TellOne, Look, Take, ResultOf, FaultOf, Answer}
-use Rattle.claim.specs.Steps.{accepts, refusal, Accepted, Outcome, Step, none}
+use Rattle.claim.specs.Steps.{accepts, refusal, Accepted, Outcome, Step}
 use Rattle.claim.specs.Claim.{Premises, AllOrNone}
 use Rattle.claim.proofs.Rows.{seat_from, seat_low, seat_high, none_some, some_where}
 use Rattle.claim.proofs.Calls.{Inv, accepts_same, agreed, take_passed}

@@ -1,5 +1,5 @@
 -- No square of an inside receiver is given two outside words in a round.
-use Rattle.std.proofs.Common.{◌≡◌, ℕ, ◌+◌, ◌<◌, Bool, true, false, cond, not, ◌&&◌, eqb, List, [], ◌∷◌, take, Some, None, Option, sym, refl, ap, ◌∙◌, ap₂, inl, inr, arith}
+use Rattle.std.proofs.Common.{◌≡◌, ℕ, ◌+◌, ◌<◌, Bool, true, false, cond, ◌&&◌, eqb, List, [], ◌∷◌, Some, None, Option, sym, refl, ap, ◌∙◌, ap₂, inl, inr, arith}
 use Rattle.std.proofs.lemmas.Bool.{both_ways, eqb-true, cond-true, cond-false, and_parts, cases_Bool, eq-eqb}
 use Rattle.ring.specs.Model.{PointLaws}
 use Rattle.ring.specs.declared.Ring.{Ghosts}

@@ -11,7 +11,7 @@ use Rattle.rules.specs.Rules.{Parts}
 use Rattle.protocol.specs.Shares.{count}
 use Rattle.protocol.proofs.Gates.{openings_numbered}
 use Rattle.claim.specs.Bench.{Setup, State, Call, Answer, Refused, opening_count}
-use Rattle.claim.specs.Steps.{owned, Run, Starts}
+use Rattle.claim.specs.Steps.{Run, Starts}
 use Rattle.claim.specs.Claim.{Premises, takes, told, AllOrNone, ResultRight, Claim, ClaimHolds}
 use Rattle.claim.proofs.Rows.{inner_inside}
 use Rattle.claim.proofs.Invariant.{start_holds, sound_at}

@@ -2,7 +2,7 @@
 use Rattle.std.specs.Prelude.{◌≡◌, ℕ, zero, suc, Bool, true, false, cond, not, ◌&&◌, List, [], ◌∷◌, ◌++◌, map, length, drop, replicate, Some, None, Ok, Err, Option, Result, ◌==◌, nat_le, nat_lt}
 use Rattle.ring.specs.Model.{degree}
 use Rattle.ring.specs.declared.Ring.{Ghosts}
-use Rattle.curve.specs.Curve.{El, K, word, or_else}
+use Rattle.curve.specs.Curve.{El, K, or_else}
 use Rattle.curve.specs.declared.refusal.Refusal.{Refusal}
 use Rattle.curve.specs.declared.refusal.Refusal.TheVariants.{Length, Missing, Placed, Halted, Done, Seat, Output, Unopened, Own}
 use Rattle.encoding.specs.Layouts.{positions, read_at}

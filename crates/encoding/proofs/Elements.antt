@@ -1,5 +1,5 @@
 -- Lanes that are laid out are an element, and so is a number at one coordinate.
-use Rattle.std.proofs.Common.{◌≡◌, ℕ, zero, suc, ◌%◌, ◌<◌, List, [], ◌∷◌, length, set, ◌∙◌, mod-lt, arith, length-set}
+use Rattle.std.proofs.Common.{ℕ, zero, suc, ◌%◌, ◌<◌, List, [], ◌∷◌, length, set, ◌∙◌, mod-lt, arith, length-set}
 use Rattle.algebra.specs.Quotient.{Shape, Is, modulo, zeros, AllBelow}
 use Rattle.algebra.proofs.Quotient.{is_zeros}
 use Rattle.ring.specs.Model.{embedded}

@@ -2,15 +2,15 @@
 use Rattle.std.proofs.Common.{◌≡◌, ℕ, ◌+◌, ◌*◌, ◌<◌, ◌≤◌, min, Bool, true, false, cond, ◌||◌, eqb, ltb, leb, ◌⊎◌, List, length, Some, None, Ok, Err, Option, Result, sym, refl, ap, ◌∙◌, subst, inl, inr, arith}
 use Rattle.std.proofs.lemmas.Bool.Decides.{nat_tests}
 use Rattle.std.proofs.lemmas.Bool.{cases_lt, le-leb, lt-ltb}
-use Rattle.curve.specs.Curve.{El, seats_wrong, curve_refused, Opens, Off, Answers, Opened, OpenedBy}
+use Rattle.curve.specs.Curve.{seats_wrong, curve_refused, Opens, Answers, Opened, OpenedBy}
 use Rattle.curve.specs.declared.Opening.{Opening as RowOpening}
-use Rattle.curve.specs.declared.Opening.TheVariants.{Value, Fault as RowFault}
+use Rattle.curve.specs.declared.Opening.TheVariants.{Value}
 use Rattle.curve.specs.declared.refusal.Refusal.{Refusal}
 use Rattle.curve.specs.declared.refusal.Refusal.TheVariants.{Seats, Threshold}
 use Rattle.curve.proofs.Theory.{degree_below}
 use Rattle.ring.specs.declared.Ring.{Ghosts}
 use Rattle.encoding.specs.declared.layout.Layout.{Layout}
-use Rattle.circuit.specs.Openings.{degree_of, gate_opened}
+use Rattle.circuit.specs.Openings.{degree_of}
 use Rattle.circuit.specs.declared.openings.Opening.{Opening}
 use Rattle.circuit.specs.declared.openings.Opening.TheVariants.{Product, Output}
 use Rattle.ring.specs.Model.{degree}

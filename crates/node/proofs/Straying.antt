@@ -1,7 +1,7 @@
 -- Coordinates off a layout.
-use Rattle.std.proofs.Common.{◌≡◌, ℕ, ◌+◌, ◌%◌, ◌<◌, ◌≤◌, ◌⊎◌, List, length, get_or, Some, None, Option, sym, refl, ap, ◌∙◌, inl, inr, mod-eq_of_lt, arith}
+use Rattle.std.proofs.Common.{◌≡◌, ℕ, ◌%◌, ◌≤◌, length, get_or, Some, None, Option, sym, ap, ◌∙◌, inl, inr, mod-eq_of_lt, arith}
 use lib.ListN.{length-map, get_or-eq_default}
-use Rattle.std.proofs.lemmas.Bool.{cases_lt, cases_eq}
+use Rattle.std.proofs.lemmas.Bool.{cases_lt}
 use Rattle.algebra.specs.Quotient.{Shape, Element}
 use Rattle.ring.specs.Model.{degree}
 use Rattle.encoding.specs.Layouts.{positions, read_at}
@@ -11,7 +11,7 @@ use Rattle.encoding.specs.Positions.{sought}
 use Rattle.encoding.specs.Sound.{here, off}
 use Rattle.rules.specs.Clear.{seen}
 use Rattle.rules.proofs.Lanes.{low_element}
-use Rattle.node.specs.Openings.{OffLayout, InLayout, Stray, Strays, Differ}
+use Rattle.node.specs.Openings.{OffLayout, Strays, Differ}
 
 module _ (s : Shape) (layout : Layout) (x : Element s) where
   -- at its positions the value is as it is seen

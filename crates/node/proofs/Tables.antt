@@ -1,5 +1,5 @@
 -- Tables read and written at any place.
-use Rattle.std.proofs.Common.{◌≡◌, ℕ, zero, suc, ◌+◌, ◌-◌, ◌<◌, ◌≤◌, List, [], ◌∷◌, map, length, get_or, set, replicate, Some, None, sym, refl, ap, ◌∙◌, arith}
+use Rattle.std.proofs.Common.{◌≡◌, ℕ, zero, suc, ◌<◌, ◌≤◌, List, [], ◌∷◌, map, length, get_or, replicate, Some, None, refl, ap, arith}
 use Rattle.node.specs.Seats.{numbered}
 use Rattle.curve.specs.Curve.{listed}
 use lib.ListN.{length-map, get_or-eq_default}

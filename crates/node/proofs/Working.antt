@@ -1,10 +1,10 @@
 -- Gates worked out one after another.
-use Rattle.std.proofs.Common.{◌≡◌, ℕ, suc, ◌+◌, ◌-◌, ◌<◌, ◌≤◌, List, map, get_or, set, sym, refl, ap, ◌∙◌, ap₂, add-one, arith}
+use Rattle.std.proofs.Common.{◌≡◌, ℕ, suc, ◌+◌, ◌-◌, ◌<◌, ◌≤◌, List, get_or, set, sym, refl, ap, ◌∙◌, ap₂, add-one, arith}
 use Rattle.algebra.specs.Ring.{CommRing}
 use Rattle.encoding.specs.declared.layout.Layout.{Layout}
 use Rattle.circuit.specs.Codes.{Parts as Fields, parts_of}
 use Rattle.circuit.specs.Gates.{layout_at}
-use Rattle.circuit.specs.Kinds.{gate_by, gate_at}
+use Rattle.circuit.specs.Kinds.{gate_by}
 use Rattle.rules.specs.Elements.{parts}
 use Rattle.rules.specs.Rules.{Known, after}
 use Rattle.node.specs.Work.{entries, worked, settled}

@@ -1,6 +1,6 @@
 -- A node: one seat with its own list of gates, over tables that it is lent at each call.
-use Rattle.std.specs.Prelude.{◌≡◌, ℕ, ◌-◌, ◌*◌, Bool, true, false, cond, not, ◌&&◌, ◌||◌, ◌⊎◌, List, [], map, length, replicate, Some, None, Ok, Err, Option, Result, ◌==◌, ◌≢◌, nat_le, nat_lt}
-use Rattle.curve.specs.Curve.{El, K, seats_wrong, or_else, word as word_at}
+use Rattle.std.specs.Prelude.{◌≡◌, ℕ, ◌-◌, ◌*◌, Bool, true, false, cond, ◌&&◌, ◌⊎◌, List, [], map, length, replicate, Some, None, Ok, Err, Option, Result, ◌==◌, ◌≢◌, nat_le, nat_lt}
+use Rattle.curve.specs.Curve.{El, K, seats_wrong, word as word_at}
 use Rattle.curve.specs.declared.refusal.Refusal.{Refusal}
 use Rattle.curve.specs.declared.refusal.Refusal.TheVariants.{Seats, Threshold, Length, Seat, Own}
 use Rattle.ring.specs.Model.{degree}

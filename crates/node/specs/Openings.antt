@@ -1,6 +1,6 @@
 -- What an opening comes to: a value, or a fault.
 use Rattle.std.specs.Prelude.{◌≡◌, ℕ, ◌<◌, List, length, Some, None, Ok, Err, Option, Result, ◌≢◌, slice_index, slice_index_or}
-use Rattle.curve.specs.Curve.{El, Opens, Off, curve_refused}
+use Rattle.curve.specs.Curve.{El, Opens, Off}
 use Rattle.curve.specs.declared.refusal.Refusal.{Refusal}
 use Rattle.ring.specs.Model.{degree}
 use Rattle.ring.specs.declared.Ring.{Ghosts}

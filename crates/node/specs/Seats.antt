@@ -1,5 +1,5 @@
 -- One seat: what it has opened, why it has stopped, and what a row makes of it.
-use Rattle.std.specs.Prelude.{◌≡◌, ℕ, zero, suc, Bool, cond, List, [], ◌∷◌, ◌++◌, map, length, Some, None, Ok, Err, Option, Result, nat_lt}
+use Rattle.std.specs.Prelude.{◌≡◌, ℕ, zero, suc, cond, List, [], ◌∷◌, ◌++◌, map, length, Some, None, Ok, Err, Option, Result, nat_lt}
 use Rattle.curve.specs.Curve.{K, curve_refused, word as word_at}
 use Rattle.curve.specs.declared.refusal.Refusal.{Refusal}
 use Rattle.curve.specs.declared.refusal.Refusal.TheVariants.{Halted, Done}

@@ -5,7 +5,7 @@ use Rattle.algebra.specs.Poly.{val}
 use Rattle.algebra.specs.Ring.{ops}
 use Rattle.circuit.specs.Kinds.{gate_at}
 use Rattle.circuit.specs.Openings.{products}
-use Rattle.rules.specs.Rules.{Parts, openings}
+use Rattle.rules.specs.Rules.{Parts}
 use Rattle.protocol.specs.Gates.{degree, named}
 use Rattle.protocol.specs.Shares.{Table, Inside, everyone, Shared, Opens}
 use Rattle.protocol.specs.Runs.{Task, word_of, value_shared, value_opened, Dealt, Right, TrueWord, TrueWordsExist, TrueWordsOnce, RunsComplete}

@@ -1,24 +1,24 @@
 -- Plain evaluation of a list that is taken: it satisfies every gate's rule, alone, and the values have its lanes.
-use Rattle.std.proofs.Common.{◌≡◌, ℕ, zero, suc, ◌+◌, ◌-◌, ◌*◌, ◌%◌, ◌<◌, ◌≤◌, Bool, true, false, eqb, ltb, ◌⊎◌, List, [], ◌∷◌, map, length, get_or, set, Ok, sym, refl, ap, ◌∙◌, subst, ap₂, inl, inr, mod-lt, arith, length-set}
+use Rattle.std.proofs.Common.{◌≡◌, ℕ, zero, suc, ◌+◌, ◌-◌, ◌*◌, ◌%◌, ◌<◌, true, false, List, [], ◌∷◌, map, length, get_or, set, Ok, sym, refl, ap, ◌∙◌, subst, ap₂, inl, inr, mod-lt, arith, length-set}
 use lib.ListN.{length-map}
 use Rattle.std.proofs.lemmas.Bool.{cases_eq, eq-eqb, ne_eqb, lt-ltb}
 use Rattle.algebra.specs.Quotient.{Shape, Element, modulo, add, negate, scale, zeros}
-use Rattle.algebra.specs.Ring.{CommRing, sub}
-use Rattle.algebra.specs.Solver.{◌:=◌, nil, ◌:+◌, ◌:-◌, ◌:*◌}
-use Rattle.algebra.proofs.Solver.{ring1, zero_add}
+use Rattle.algebra.specs.Ring.{sub}
+use Rattle.algebra.specs.Solver.{◌:=◌, nil, ◌:-◌}
+use Rattle.algebra.proofs.Solver.{ring1}
 use Rattle.ring.specs.Model.{ring, degree}
 use Rattle.encoding.specs.Encodings.{Enc, Sound}
 use Rattle.encoding.specs.Layouts.{positions, read_at}
 use Rattle.encoding.specs.declared.layout.Layout.{Layout}
 use Rattle.encoding.specs.declared.layout.Layout.TheVariants.{Plain}
-use Rattle.encoding.specs.Product.{length_add, add_at, minus_at, scale_at, zeros_at}
+use Rattle.encoding.specs.Product.{length_add, zeros_at}
 use Rattle.encoding.specs.Sound.{pos}
 use Rattle.circuit.specs.Gates.{setting, layout_at}
 use Rattle.circuit.specs.Kinds.{Gate, In, Add, Sub, Scale, Offset, Place, Mul, Out, gate_at}
 use Rattle.circuit.specs.Lists.{list_checked}
-use Rattle.circuit.specs.Wellformed.{Operand, Fits}
+use Rattle.circuit.specs.Wellformed.{Fits}
 use Rattle.circuit.proofs.Wellformed.{taken_lists_fit}
-use Rattle.rules.specs.Clear.{seen, seen_parts, clear_gate, clear_before, clear}
+use Rattle.rules.specs.Clear.{clear_gate, clear_before, clear}
 use Rattle.rules.specs.Elements.{value, number_at, picked, known}
 use Rattle.rules.specs.Plain.{Feed, lanes_of, plain_before, plain, Evaluates}
 use Rattle.rules.specs.Rules.{gate_by_gate}

@@ -1,20 +1,19 @@
 -- What sums, multiples, moves and products of values do to their lanes.
-use Rattle.std.proofs.Common.{◌≡◌, ℕ, zero, suc, pred, ◌+◌, ◌-◌, ◌*◌, ◌%◌, ◌<◌, ◌≤◌, ◌⊎◌, List, [], ◌∷◌, map, length, get_or, set, replicate, sym, refl, ap, ◌∙◌, ap₂, inl, inr, add-zero, mod-lt, mod-eq_of_lt, mul_comm, mul-zero, zero-mul, mul-one, arith, length-set, get_or-set_other, get_or-set_same}
+use Rattle.std.proofs.Common.{◌≡◌, ℕ, suc, pred, ◌+◌, ◌-◌, ◌*◌, ◌%◌, ◌<◌, ◌≤◌, List, [], ◌∷◌, map, length, get_or, set, replicate, sym, refl, ap, ◌∙◌, ap₂, inl, inr, mod-eq_of_lt, mul-zero, zero-mul, mul-one, arith, length-set, get_or-set_other, get_or-set_same}
 use native.Mathlib.Nat.{mod-mod, mod_self, add-mod, zero-mod, sub-zero}
 use lib.ListN.{length-replicate, length-map, get_or-eq_default}
 use Rattle.std.proofs.lemmas.Bool.{cases_eq, cases_lt}
-use Rattle.algebra.specs.Quotient.{Shape, Element, Is, modulo, add, negate, scale, zeros, product}
-use Rattle.algebra.specs.Ring.{CommRing, sub}
+use Rattle.algebra.specs.Quotient.{Shape, Element, modulo, add, negate, scale, zeros}
 use Rattle.algebra.proofs.Modulo.{mod_mul_mod, mul_mod_mod}
 use Rattle.algebra.proofs.Quotient.{same_element, no_zero}
-use Rattle.ring.specs.Model.{ring, degree, embedded}
+use Rattle.ring.specs.Model.{ring}
 use Rattle.encoding.specs.Encodings.{Enc, Sound, laid}
 use Rattle.encoding.specs.Layouts.{positions, read_at}
 use Rattle.encoding.specs.declared.layout.Layout.{Layout}
 use Rattle.encoding.specs.declared.layout.Layout.TheVariants.{Plain}
-use Rattle.encoding.specs.Laying.{same_places, read_place, any_default}
-use Rattle.encoding.specs.Positions.{Apart, sought}
-use Rattle.encoding.specs.Product.{total, terms, Room, total_none, zeros_at, length_add, add_at, at_below, minus_at, scale_at, plain_at}
+use Rattle.encoding.specs.Laying.{same_places, any_default}
+use Rattle.encoding.specs.Positions.{sought}
+use Rattle.encoding.specs.Product.{terms, Room, zeros_at, length_add, add_at, at_below, minus_at, scale_at, plain_at}
 use Rattle.encoding.specs.Sound.{pos, long, here, off, placed, position_low, total_one}
 use Rattle.rules.specs.Elements.{value, number_at, picked}
 

@@ -1,9 +1,8 @@
 -- The values of a list, gate by gate.
 use Rattle.std.proofs.Common.{◌≡◌, ℕ, zero, suc, ◌+◌, ◌<◌, ◌≤◌, Bool, true, false, eqb, List, [], ◌∷◌, ◌++◌, map, length, get_or, sym, refl, ap, ◌∙◌, ap₂, add-one, arith, length-append}
 use lib.Dec.{eqb-suc-zero, eqb-zero-suc, eqb-suc-suc}
-use lib.ListN.{length-map}
 use Rattle.curve.specs.Curve.{listed, word}
-use Rattle.curve.proofs.Loops.{Filled, filled_all}
+use Rattle.curve.proofs.Loops.{filled_all}
 use Rattle.std.proofs.lemmas.Bool.{and_parts, eqb-true}
 use Rattle.ring.specs.Model.{ring, degree}
 use Rattle.ring.specs.declared.Ring.{Ghosts}
@@ -12,7 +11,7 @@ use Rattle.encoding.specs.declared.layout.Layout.{Layout}
 use Rattle.circuit.specs.Codes.{Parts, parts_of}
 use Rattle.circuit.specs.Gates.{setting, layout_at}
 use Rattle.circuit.specs.Lists.{list_checked}
-use Rattle.circuit.specs.Kinds.{Gate, gate_by, gate_at}
+use Rattle.circuit.specs.Kinds.{gate_by, gate_at}
 use Rattle.rules.specs.Clear.{clear_gate, clear_before, clear}
 use Rattle.rules.specs.Theorems.{counts_fit, ValuesAre}
 use Rattle.rules.proofs.Evaluation.{evaluation_is_plain}

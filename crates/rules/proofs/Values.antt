@@ -1,12 +1,12 @@
 -- Values of lanes, computed with: what the operations of the ring do to the lanes.
-use Rattle.std.proofs.Common.{◌≡◌, ℕ, zero, suc, pred, ◌+◌, ◌-◌, ◌*◌, ◌%◌, ◌<◌, ◌≤◌, true, false, cond, ◌⊎◌, List, [], ◌∷◌, map, length, get_or, set, replicate, filter, sym, refl, ap, ◌∙◌, ap₂, inl, inr, arith}
+use Rattle.std.proofs.Common.{◌≡◌, ℕ, zero, suc, ◌%◌, ◌<◌, ◌≤◌, true, false, cond, List, [], ◌∷◌, length, get_or, set, filter, refl, ap, ◌∙◌, ap₂, arith}
 use lib.ListN.{length-map}
 use Rattle.std.specs.List.{range_with_len}
 use Rattle.std.proofs.lemmas.List.FromFn.{length-range_with_len}
-use Rattle.algebra.specs.Quotient.{Shape, Element, Is, modulo, add, negate, scale, zeros, product}
+use Rattle.algebra.specs.Quotient.{Shape, Element, modulo, zeros}
 use Rattle.algebra.proofs.Quotient.{same_element}
 use Rattle.curve.specs.Curve.{listed}
-use Rattle.ring.specs.Model.{ring, degree, embedded}
+use Rattle.ring.specs.Model.{degree}
 use Rattle.encoding.specs.Encodings.{laid}
 use Rattle.encoding.specs.Layouts.{half, no_two, positions, laid_over, read_at}
 use Rattle.encoding.specs.declared.layout.Layout.{Layout}

@@ -1,6 +1,6 @@
 -- Plain evaluation: the lanes of every gate, from the constants and the inputs' values, with nothing shared.
 use Rattle.std.specs.Prelude.{◌≡◌, ℕ, ◌+◌, ◌%◌, ◌<◌, List, [], map, length, slice_index, slice_set}
-use Rattle.algebra.specs.Quotient.{Shape, modulo, add, negate, scale, zeros, AllBelow}
+use Rattle.algebra.specs.Quotient.{Shape, modulo, add, negate, scale, zeros}
 use Rattle.ring.specs.Model.{degree}
 use Rattle.encoding.specs.Encodings.{Enc}
 use Rattle.encoding.specs.Layouts.{positions, read_at}

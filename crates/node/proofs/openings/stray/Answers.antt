@@ -1,4 +1,4 @@
-use Rattle.std.proofs.Common.{ap, subst}
+use Rattle.std.proofs.Common.{subst}
 use Rattle.ring.specs.Model.{degree}
 use Rattle.node.specs.Openings.{Differ}
 use Rattle.node.proofs.Straying.{strays}

@@ -1,4 +1,4 @@
-use Rattle.std.proofs.Common.{map, vec_items}
+use Rattle.std.proofs.Common.{vec_items}
 use Rattle.curve.specs.Curve.{K, word}
 use Rattle.rules.specs.Elements.{known}
 use Rattle.node.proofs.Working.{left_less, left_none}

@@ -1,4 +1,4 @@
-use Rattle.std.proofs.Common.{◌≤◌, map, length, sym, ap, ◌∙◌, arith}
+use Rattle.std.proofs.Common.{◌≤◌, map, length, sym, ◌∙◌, arith}
 use lib.ListN.{length-map, get_or-eq_default}
 use Rattle.curve.specs.Curve.{K}
 use Rattle.curve.proofs.Loops.{read_map}

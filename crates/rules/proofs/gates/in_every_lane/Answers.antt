@@ -1,4 +1,4 @@
-use Rattle.std.proofs.Common.{◌<◌, length, replicate, sym, ap, ◌∙◌, arith}
+use Rattle.std.proofs.Common.{◌<◌, length, replicate, sym, ◌∙◌, arith}
 use lib.ListN.{length-replicate, get_or-replicate}
 use Rattle.ring.specs.Model.{degree}
 use Rattle.encoding.specs.Layouts.{positions}

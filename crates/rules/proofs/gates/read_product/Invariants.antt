@@ -1,4 +1,4 @@
-use Rattle.std.proofs.Common.{◌≡◌, ℕ, ◌<◌, map, length, get_or}
+use Rattle.std.proofs.Common.{map, get_or}
 use Rattle.curve.proofs.Loops.{Filled}
 use Rattle.encoding.specs.Layouts.{read_at}
 use Rattle.ring.specs.Model.{degree}
