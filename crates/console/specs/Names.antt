@@ -1,7 +1,7 @@
 -- The names that a person reads and writes.
 use Rattle.std.specs.Prelude.{ℕ, List, codes}
-use Rattle.console.specs.declared.algebra.Algebra.{Algebra}
-use Rattle.console.specs.declared.algebra.Algebra.TheVariants.{Add, Sub, Mul, Same, Coordinate, Embed, Point, Inverse}
+use Rattle.console.specs.declared.arithmetic.Algebra.{Algebra}
+use Rattle.console.specs.declared.arithmetic.Algebra.TheVariants.{Add, Sub, Mul, Same, Coordinate, Embed, Point, Inverse}
 use Rattle.console.specs.declared.curves.Curves.{Curves}
 use Rattle.console.specs.declared.curves.Curves.TheVariants.{Deal, Open}
 use Rattle.console.specs.declared.session.Chosen.{Chosen}

@@ -3,8 +3,8 @@
 
 ghost use Rattle.std.specs.Prelude.{◌≡◌, true, false, ◌≢◌};
 
-mod algebra;
 mod answer;
+mod arithmetic;
 mod curves;
 mod notation;
 mod options;

@@ -2,8 +2,8 @@
 ghost use Rattle.std.specs.Prelude.{◌≡◌, MatchOption, OnErr, ◌≢◌};
 ghost use Rattle.console.specs.Names.{ring_name};
 
-use crate::algebra::Algebra;
 use crate::answer::Answer;
+use crate::arithmetic::Algebra;
 use crate::curves::Curves;
 use crate::notation::Notation;
 use crate::trouble::{Misread, Trouble};
