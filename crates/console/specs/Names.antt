@@ -2,8 +2,16 @@
 use Rattle.std.specs.Prelude.{ℕ, List, codes}
 use Rattle.console.specs.declared.arithmetic.Algebra.{Algebra}
 use Rattle.console.specs.declared.arithmetic.Algebra.TheVariants.{Add, Sub, Mul, Same, Coordinate, Embed, Point, Inverse}
+use Rattle.console.specs.declared.any_exchange.Kind.{Kind}
+use Rattle.console.specs.declared.any_exchange.Kind.TheVariants.{Lines, Board, CurtainLines, CurtainBoard}
+use Rattle.console.specs.declared.circuits.Circuits.{Circuits}
+use Rattle.console.specs.declared.circuits.Circuits.TheVariants.{Layout as LayoutCommand, Gates, Constants, Check, Plain}
 use Rattle.console.specs.declared.curves.Curves.{Curves}
 use Rattle.console.specs.declared.curves.Curves.TheVariants.{Deal, Open}
+use Rattle.console.specs.declared.exchanges.Exchanges.{Exchanges}
+use Rattle.console.specs.declared.exchanges.Exchanges.TheVariants.{Exchange, Place, Look, Missing as MissingCommand, Turn}
+use Rattle.console.specs.declared.nodes.Nodes.{Nodes}
+use Rattle.console.specs.declared.nodes.Nodes.TheVariants.{Seats as SeatsCommand, Threshold as ThresholdCommand, Input, Pair, Node}
 use Rattle.console.specs.declared.session.Chosen.{Chosen}
 use Rattle.console.specs.declared.session.Chosen.TheVariants.{W4, B8}
 use Rattle.curve.specs.declared.refusal.Refusal.{Refusal}
@@ -26,6 +34,33 @@ algebra_name Inverse = codes "inverse"
 abbrev pub curves_name : Curves → List ℕ
 curves_name Deal = codes "deal"
 curves_name Open = codes "open"
+
+abbrev pub circuits_name : Circuits → List ℕ
+circuits_name LayoutCommand = codes "layout"
+circuits_name Gates = codes "gates"
+circuits_name Constants = codes "constants"
+circuits_name Check = codes "check"
+circuits_name Plain = codes "plain"
+
+abbrev pub exchanges_name : Exchanges → List ℕ
+exchanges_name Exchange = codes "exchange"
+exchanges_name Place = codes "place"
+exchanges_name Look = codes "look"
+exchanges_name MissingCommand = codes "missing"
+exchanges_name Turn = codes "turn"
+
+abbrev pub kind_name : Kind → List ℕ
+kind_name Lines = codes "lines"
+kind_name Board = codes "board"
+kind_name CurtainLines = codes "curtain-lines"
+kind_name CurtainBoard = codes "curtain-board"
+
+abbrev pub nodes_name : Nodes → List ℕ
+nodes_name SeatsCommand = codes "seats"
+nodes_name ThresholdCommand = codes "threshold"
+nodes_name Input = codes "input"
+nodes_name Pair = codes "pair"
+nodes_name Node = codes "node"
 
 abbrev pub refusal_name : Refusal → List ℕ
 refusal_name Seats = codes "seats"

@@ -3,8 +3,12 @@ ghost use Rattle.std.specs.Prelude.{◌≡◌};
 ghost use Rattle.console.specs.Names.{refusal_name};
 
 use crate::notation::Notation;
+use circuit::checked::Circuit;
 use curve::Opening;
 use curve::refusal::Refusal;
+use encoding::layout::Layout;
+use encoding::values::read_lane;
+use node::fault::Fault;
 use std::fmt;
 
 // The number of the fault that a word off the polynomial is.
@@ -18,6 +22,15 @@ pub(crate) enum Answer<R> {
     Truth(bool),
     Shares(Vec<R>),
     Opened(Opening<R>),
+    Positions(Layout),
+    Gates(usize),
+    Constants(usize),
+    Checked(Circuit),
+    Plain(Circuit, Vec<R>),
+    Done,
+    Seen(Option<R>),
+    Accepted,
+    Fault(Fault),
     Refused(Refusal),
 }
 
@@ -30,6 +43,18 @@ impl<R: Notation> fmt::Display for Answer<R> {
             Answer::Truth(truth) => f.write_str(if *truth { "yes" } else { "no" }),
             Answer::Shares(shares) => show_shares(shares.as_slice(), f),
             Answer::Opened(opening) => show_opening(*opening, f),
+            Answer::Positions(layout) => show_positions::<R, W>(*layout, f),
+            Answer::Gates(count) => write!(f, "gates {count}"),
+            Answer::Constants(count) => write!(f, "constants {count}"),
+            Answer::Checked(circuit) => show_layouts(circuit.layouts(), f),
+            Answer::Plain(circuit, values) => {
+                show_lanes(circuit.layouts(), values.as_slice(), f)
+            }
+            Answer::Done => f.write_str("ok"),
+            Answer::Seen(Some(word)) => word.show(f),
+            Answer::Seen(None) => f.write_str("empty"),
+            Answer::Accepted => f.write_str("accepted"),
+            Answer::Fault(fault) => show_fault(*fault, f),
             Answer::Refused(refusal) => show_refusal(*refusal, f),
         }
     }
@@ -66,6 +91,64 @@ fn show_opening<R: Notation, W: fmt::Write>(
         }
         Opening::Fault(place) => write!(f, "fault {OFF_CURVE} place {place}"),
     }
+}
+
+fn show_positions<R: Notation, W: fmt::Write>(
+    layout: Layout,
+    f: &mut fmt::Formatter<W>,
+) -> fmt::Result {
+    let coordinates = R::coordinate_count();
+    f.write_str("positions")?;
+    for lane in 0..layout.lane_count(coordinates) {
+        let position = layout.position(coordinates, lane);
+        write!(f, " {position}")?;
+    }
+    Ok(())
+}
+
+fn show_layouts<W: fmt::Write>(layouts: &[Layout], f: &mut fmt::Formatter<W>) -> fmt::Result {
+    f.write_str("ok layouts")?;
+    for layout in layouts {
+        let number = layout.number();
+        write!(f, " {number}")?;
+    }
+    Ok(())
+}
+
+// The gates' lanes, with a bar between gates.
+fn show_lanes<R: Notation, W: fmt::Write>(
+    layouts: &[Layout],
+    values: &[R],
+    f: &mut fmt::Formatter<W>,
+) -> fmt::Result {
+    f.write_str("plain")?;
+    for (gate, (layout, value)) in layouts.iter().zip(values).enumerate() {
+        if gate > 0 {
+            f.write_str(" |")?;
+        }
+        show_value(*layout, *value, f)?;
+    }
+    Ok(())
+}
+
+// The lanes of one value, each behind a space.
+fn show_value<R: Notation, W: fmt::Write>(
+    layout: Layout,
+    value: R,
+    f: &mut fmt::Formatter<W>,
+) -> fmt::Result {
+    for lane in 0..layout.lane_count(R::coordinate_count()) {
+        let number = read_lane(layout, value, lane);
+        write!(f, " {number}")?;
+    }
+    Ok(())
+}
+
+fn show_fault<W: fmt::Write>(fault: Fault, f: &mut fmt::Formatter<W>) -> fmt::Result {
+    let number = fault.number();
+    let gate = fault.gate();
+    let place = fault.place();
+    write!(f, "fault {number} gate {gate} place {place}")
 }
 
 fn show_refusal<W: fmt::Write>(refusal: Refusal, f: &mut fmt::Formatter<W>) -> fmt::Result {

@@ -9,7 +9,7 @@ use crate::words::Words;
 use std::alloc::Global;
 
 // More seats than these are refused before the length of the table matters.
-const MOST_SEATS: usize = 31;
+pub(crate) const MOST_SEATS: usize = 31;
 
 #[derive(Clone, Copy)]
 pub(crate) enum Curves {

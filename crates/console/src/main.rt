@@ -4,8 +4,14 @@
 ghost use Rattle.std.specs.Prelude.{◌≡◌, true, false, ◌≢◌};
 
 mod answer;
+mod any_exchange;
 mod arithmetic;
+mod circuits;
 mod curves;
+mod dealing;
+mod desk;
+mod exchanges;
+mod nodes;
 mod notation;
 mod options;
 mod session;
@@ -14,6 +20,7 @@ mod words;
 
 use options::{Options, Stopped};
 use session::Session;
+use std::alloc::Global;
 use std::fs::File;
 use std::io;
 use std::io::{BufRead, BufReader};
@@ -43,25 +50,29 @@ fn main(rt: HostRuntime) -> ExitCode {
 // Whether every line was understood.
 fn run(rt: &HostRuntime) -> Result<bool, Stopped> {
     let Options { echo, file } = Options::read(rt)?;
-    let mut console = Console::new(echo);
+    let mut console = Console::new(rt.alloc(), echo);
     match file {
-        Some(name) => match File::open(rt, name.as_str()) {
-            Ok(file) => console.take_lines(rt, BufReader::new(rt.alloc(), file)?)?,
-            Err(e) => return Err(Stopped::File(name, e)),
-        },
+        Some(name) => console.take_file(rt, name)?,
         None => console.take_lines(rt, BufReader::new(rt.alloc(), rt.stdin())?)?,
     }
     Ok(console.understood)
 }
 
 impl Console {
-    fn new(echo: bool) -> Console
+    fn new(heap: Global, echo: bool) -> Console
         ensures { (result.echo ≡ echo) × (result.understood ≡ true) }
     {
         Console {
             echo,
-            session: Session::new(),
+            session: Session::new(heap),
             understood: true,
+        }
+    }
+
+    fn take_file(&mut self, rt: &HostRuntime, name: String) -> Result<(), Stopped> {
+        match File::open(rt, name.as_str()) {
+            Ok(file) => Ok(self.take_lines(rt, BufReader::new(rt.alloc(), file)?)?),
+            Err(e) => Err(Stopped::File(name, e)),
         }
     }
 

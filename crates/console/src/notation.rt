@@ -110,3 +110,16 @@ fn hexadecimal(digit: u8) -> Option<u8>
         _ => None,
     }
 }
+
+// A gate's code is written with all its eight hexadecimal digits, in either case.
+pub(crate) fn read_code(word: &str) -> Option<u32> {
+    let digits = word.as_bytes();
+    if digits.len() != 8 {
+        return None;
+    }
+    let mut code = 0;
+    for digit in digits {
+        code = code << 4 | u32::from(hexadecimal(digit.to_ascii_lowercase())?);
+    }
+    Some(code)
+}

@@ -1,14 +1,15 @@
 // One run of the console: which ring is chosen, and which commands there are.
 ghost use Rattle.std.specs.Prelude.{◌≡◌, MatchOption, OnErr, ◌≢◌};
 ghost use Rattle.console.specs.Names.{ring_name};
+ghost use Rattle.console.specs.Sessions.{chosen_of};
 
 use crate::answer::Answer;
-use crate::arithmetic::Algebra;
-use crate::curves::Curves;
+use crate::desk::Desk;
 use crate::notation::Notation;
 use crate::trouble::{Misread, Trouble};
 use crate::words::Words;
 use std::alloc::Global;
+use std::fmt;
 
 #[derive(Clone, Copy)]
 pub(crate) enum Chosen {
@@ -16,9 +17,18 @@ pub(crate) enum Chosen {
     B8,
 }
 
+// The chosen ring, with what is kept in it.
 #[derive(Drop)]
-pub(crate) struct Session {
-    ring: Chosen,
+pub(crate) enum Session {
+    W4(Desk<[u64; 4]>),
+    B8(Desk<u8>),
+}
+
+// The answer to a command, in the ring that it was given in.
+#[derive(Drop)]
+pub(crate) enum Reply {
+    W4(Answer<[u64; 4]>),
+    B8(Answer<u8>),
 }
 
 impl Chosen {
@@ -43,59 +53,57 @@ impl Chosen {
         }
     }
 
-    fn describe<'a>(self, heap: Global) -> Result<String, Trouble<'a>> {
+    fn describe(self) -> Reply {
         match self {
-            Chosen::W4 => line::<[u64; 4]>(heap, Answer::Ring),
-            Chosen::B8 => line::<u8>(heap, Answer::Ring),
+            Chosen::W4 => Reply::W4(Answer::Ring),
+            Chosen::B8 => Reply::B8(Answer::Ring),
+        }
+    }
+
+    // A session in this ring with nothing kept yet.
+    fn begin(self, heap: Global) -> Session
+        ensures { chosen_of result ≡ self }
+    {
+        match self {
+            Chosen::W4 => Session::W4(Desk::new(heap)),
+            Chosen::B8 => Session::B8(Desk::new(heap)),
         }
     }
 }
 
 impl Session {
-    pub(crate) fn new() -> Session
-        ensures { result.ring ≡ Chosen.W4 }
+    pub(crate) fn new(heap: Global) -> Session
+        ensures { chosen_of result ≡ Chosen.W4 }
     {
-        Session { ring: Chosen::W4 }
+        Chosen::W4.begin(heap)
     }
 
-    // The line that answers a command. One that is not understood changes nothing.
+    // What is answered to a command. One that is not understood changes nothing.
     pub(crate) fn answer<'a>(
         &mut self,
         heap: Global,
         mut words: Words<'a>,
-    ) -> Result<String, Trouble<'a>>
+    ) -> Result<Reply, Trouble<'a>>
         ensures { OnErr result (self.new ≡ self.old) }
     {
         let command = words.word()?;
         if command == "ring" {
             let ring = Chosen::read(words)?;
-            let answer = ring.describe(heap)?;
-            self.ring = ring;
-            return Ok(answer);
+            *self = ring.begin(heap);
+            return Ok(ring.describe());
         }
-        match self.ring {
-            Chosen::W4 => answer_in::<[u64; 4]>(heap, command, words),
-            Chosen::B8 => answer_in::<u8>(heap, command, words),
+        match self {
+            Session::W4(desk) => Ok(Reply::W4(desk.answer(heap, command, words)?)),
+            Session::B8(desk) => Ok(Reply::B8(desk.answer(heap, command, words)?)),
         }
     }
 }
 
-// A group of commands stands here once, and runs in every ring.
-fn answer_in<'a, R: Notation>(
-    heap: Global,
-    command: &'a str,
-    words: Words<'a>,
-) -> Result<String, Trouble<'a>> {
-    let answer: Answer<R> = if let Some(algebra) = Algebra::named(command) {
-        algebra.answer(words)?
-    } else if let Some(curves) = Curves::named(command) {
-        curves.answer(heap, words)?
-    } else {
-        return Err(Trouble::Line(Misread::Command, command));
-    };
-    line(heap, answer)
-}
-
-fn line<'a, R: Notation>(heap: Global, answer: Answer<R>) -> Result<String, Trouble<'a>> {
-    Ok(format!(in heap; "{answer}")?)
+impl fmt::Display for Reply {
+    fn fmt<W: fmt::Write>(&self, f: &mut fmt::Formatter<W>) -> fmt::Result {
+        match self {
+            Reply::W4(answer) => write!(f, "{answer}"),
+            Reply::B8(answer) => write!(f, "{answer}"),
+        }
+    }
 }

@@ -14,6 +14,14 @@ pub(crate) enum Misread {
     Length,
     Coordinate,
     Byte,
+    Code,
+    Layout,
+    Parts,
+    Gap,
+    High,
+    Node,
+    Kind,
+    Exchange,
 }
 
 // A line that is misread, with the words that are wrong; or want of memory.
@@ -35,6 +43,14 @@ impl Misread {
             Misread::Length => "more coordinates than the ring has",
             Misread::Coordinate => "a coordinate that is not a decimal number below the modulus",
             Misread::Byte => "not a byte in the form 0x57",
+            Misread::Code => "not a code of eight hexadecimal digits",
+            Misread::Layout => "no layout, which are 0 to 3",
+            Misread::Parts => "not one part for each seat",
+            Misread::Gap => "a number that leaves a gap",
+            Misread::High => "no word high before the high parts",
+            Misread::Node => "no node was made yet",
+            Misread::Kind => "no kind of exchange",
+            Misread::Exchange => "no exchange was made yet",
         }
     }
 }

@@ -1,10 +1,9 @@
 // What a session keeps between commands, in the ring that is chosen.
-ghost use Rattle.std.specs.Prelude.{◌≡◌, [], None};
-ghost use Rattle.console.specs.Misreads.{misread};
+ghost use Rattle.std.specs.Prelude.{◌≡◌, [], None, OnErr};
 
-use crate::arithmetic::Algebra;
 use crate::answer::Answer;
 use crate::any_exchange::AnyExchange;
+use crate::arithmetic::Algebra;
 use crate::circuits::Circuits;
 use crate::curves::Curves;
 use crate::dealing::Dealing;
@@ -45,7 +44,7 @@ impl<R: Notation> Desk<R> {
         command: &'a str,
         words: Words<'a>,
     ) -> Result<Answer<R>, Trouble<'a>>
-        ensures { misread result (self.new ≡ self.old) }
+        ensures { OnErr result (self.new ≡ self.old) }
     {
         if let Some(algebra) = Algebra::named(command) {
             return algebra.answer(words);

@@ -1,10 +1,9 @@
 // The commands on the tables of shares, and on one node.
-ghost use Rattle.std.specs.Prelude.{◌≡◌, MatchOption, ◌≢◌};
-ghost use Rattle.console.specs.Misreads.{misread};
+ghost use Rattle.std.specs.Prelude.{◌≡◌, MatchOption, OnErr, ◌≢◌};
 ghost use Rattle.console.specs.Names.{nodes_name};
 
 use crate::answer::Answer;
-use crate::dealing::{Dealing, has_place, parts, put_row};
+use crate::dealing::{Dealing, Pair, gather, has_place, put};
 use crate::desk::Desk;
 use crate::notation::{Notation, read_number};
 use crate::trouble::{Misread, Trouble};
@@ -54,7 +53,7 @@ impl Nodes {
         words: Words<'a>,
         desk: &mut Desk<R>,
     ) -> Result<Answer<R>, Trouble<'a>>
-        ensures { misread result (desk.new ≡ desk.old) }
+        ensures { OnErr result (desk.new ≡ desk.old) }
     {
         match self {
             Nodes::Seats => seats(heap, words, desk),
@@ -72,7 +71,7 @@ fn seats<'a, R: Notation>(
     mut words: Words<'a>,
     desk: &mut Desk<R>,
 ) -> Result<Answer<R>, Trouble<'a>>
-    ensures { misread result (desk.new ≡ desk.old) }
+    ensures { OnErr result (desk.new ≡ desk.old) }
 {
     let seats = words.number()?;
     words.end()?;
@@ -89,7 +88,7 @@ fn threshold<'a, R: Notation>(
     mut words: Words<'a>,
     desk: &mut Desk<R>,
 ) -> Result<Answer<R>, Trouble<'a>>
-    ensures { misread result (desk.new ≡ desk.old) }
+    ensures { OnErr result (desk.new ≡ desk.old) }
 {
     let threshold = words.number()?;
     words.end()?;
@@ -104,9 +103,7 @@ fn row<'a, R: Notation>(
     dealt: bool,
     seats: usize,
     degree: usize,
-) -> Result<Result<Vec<R>, Refusal>, Trouble<'a>>
-    ensures { misread result ⊥ }
-{
+) -> Result<Result<Vec<R>, Refusal>, Trouble<'a>> {
     if !dealt {
         return Ok(Ok(given));
     }
@@ -142,7 +139,7 @@ fn input<'a, R: Notation>(
     mut words: Words<'a>,
     desk: &mut Desk<R>,
 ) -> Result<Answer<R>, Trouble<'a>>
-    ensures { misread result (desk.new ≡ desk.old) }
+    ensures { OnErr result (desk.new ≡ desk.old) }
 {
     let line = words.line();
     let number = words.number()?;
@@ -154,11 +151,17 @@ fn input<'a, R: Notation>(
     }
     counted(line, &given, dealt, dealing.seats)?;
     match row(heap, given, dealt, dealing.seats, dealing.threshold)? {
-        Ok(parts) => {
-            put_row(&mut dealing.inputs, number, parts)?;
-            Ok(Answer::Done)
-        }
+        Ok(parts) => Ok(kept(put(&mut dealing.inputs, number, parts))),
         Err(refusal) => Ok(Answer::Refused(refusal)),
+    }
+}
+
+// What is answered of a row that is to be kept.
+fn kept<R>(put: bool) -> Answer<R> {
+    if put {
+        Answer::Done
+    } else {
+        Answer::Refused(Refusal::Memory)
     }
 }
 
@@ -167,7 +170,7 @@ fn pair<'a, R: Notation>(
     mut words: Words<'a>,
     desk: &mut Desk<R>,
 ) -> Result<Answer<R>, Trouble<'a>>
-    ensures { misread result (desk.new ≡ desk.old) }
+    ensures { OnErr result (desk.new ≡ desk.old) }
 {
     let line = words.line();
     let number = words.number()?;
@@ -178,7 +181,7 @@ fn pair<'a, R: Notation>(
     let given: Vec<R> = words.elements_until(heap, "low")?;
     let lows: Vec<R> = words.elements(heap)?;
     let dealing = &mut desk.dealing;
-    if !has_place(&dealing.high, number) {
+    if !has_place(&dealing.pairs, number) {
         return Err(Trouble::Line(Misread::Gap, line));
     }
     counted(line, &given, dealt, dealing.seats)?;
@@ -187,11 +190,7 @@ fn pair<'a, R: Notation>(
     let high = row(heap, given, dealt, dealing.seats, twice)?;
     let low = row(heap, lows, dealt, dealing.seats, dealing.threshold)?;
     match (high, low) {
-        (Ok(high), Ok(low)) => {
-            put_row(&mut dealing.high, number, high)?;
-            put_row(&mut dealing.low, number, low)?;
-            Ok(Answer::Done)
-        }
+        (Ok(high), Ok(low)) => Ok(kept(put(&mut dealing.pairs, number, Pair { high, low }))),
         (Err(refusal), _) => Ok(Answer::Refused(refusal)),
         (_, Err(refusal)) => Ok(Answer::Refused(refusal)),
     }
@@ -203,7 +202,7 @@ fn node<'a, R: Notation>(
     mut words: Words<'a>,
     desk: &mut Desk<R>,
 ) -> Result<Answer<R>, Trouble<'a>>
-    ensures { misread result (desk.new ≡ desk.old) }
+    ensures { OnErr result (desk.new ≡ desk.old) }
 {
     let line = words.line();
     let word = words.word()?;
@@ -229,21 +228,24 @@ struct Gathered<R> {
 }
 
 impl<R: Notation> Gathered<R> {
-    fn new<'a>(heap: Global, desk: &Desk<R>, seat: usize) -> Result<Gathered<R>, Trouble<'a>>
-        ensures { misread result ⊥ }
-    {
+    fn new<'a>(heap: Global, desk: &Desk<R>, seat: usize) -> Result<Gathered<R>, Trouble<'a>> {
         let Ok(constants) = Vec::from_slice(heap, desk.constants.as_slice()) else {
             return Err(Trouble::Memory);
         };
-        let inputs = parts(heap, &desk.dealing.inputs, seat)?;
-        let high = parts(heap, &desk.dealing.high, seat)?;
-        let low = parts(heap, &desk.dealing.low, seat)?;
-        Ok(Gathered {
+        let mut gathered = Gathered {
             constants,
-            inputs,
-            high,
-            low,
-        })
+            inputs: Vec::new(heap),
+            high: Vec::new(heap),
+            low: Vec::new(heap),
+        };
+        for input in &desk.dealing.inputs {
+            gather(&mut gathered.inputs, input, seat)?;
+        }
+        for pair in &desk.dealing.pairs {
+            gather(&mut gathered.high, &pair.high, seat)?;
+            gather(&mut gathered.low, &pair.low, seat)?;
+        }
+        Ok(gathered)
     }
 
     fn lent(&self) -> Lent<'_, R> {
@@ -289,7 +291,7 @@ fn make<'a, R: Notation>(
     seat: usize,
     desk: &mut Desk<R>,
 ) -> Result<Answer<R>, Trouble<'a>>
-    ensures { misread result ⊥ }
+    ensures { OnErr result (desk.new ≡ desk.old) }
 {
     let gathered = Gathered::new(heap, desk, seat)?;
     let Ok(mut work) = vec![in heap; R::zero(); desk.codes.len()] else {
@@ -331,7 +333,7 @@ fn take<'a, R: Notation>(
     row: &[R],
     desk: &mut Desk<R>,
 ) -> Result<Answer<R>, Trouble<'a>>
-    ensures { misread result (desk.new ≡ desk.old) }
+    ensures { OnErr result (desk.new ≡ desk.old) }
 {
     let Some(seat) = seat_at_work(desk) else {
         return Err(Trouble::Line(Misread::Node, line));

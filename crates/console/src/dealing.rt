@@ -1,0 +1,61 @@
+// The tables of shares that a node or a bench is lent: how many seats and which threshold, and every seat's parts of the inputs
+// and of the pairs.
+use crate::notation::Notation;
+use crate::trouble::Trouble;
+use std::alloc::Global;
+
+#[derive(Drop)]
+pub(crate) struct Dealing<R> {
+    pub(crate) seats: usize,
+    pub(crate) threshold: usize,
+    // A row for each input, with a part for each seat.
+    pub(crate) inputs: Vec<Vec<R>>,
+    pub(crate) pairs: Vec<Pair<R>>,
+}
+
+// The rows of one pair, each with a part for each seat.
+#[derive(Drop)]
+pub(crate) struct Pair<R> {
+    pub(crate) high: Vec<R>,
+    pub(crate) low: Vec<R>,
+}
+
+impl<R: Notation> Dealing<R> {
+    pub(crate) fn new(heap: Global) -> Dealing<R> {
+        Dealing {
+            seats: 0,
+            threshold: 0,
+            inputs: Vec::new(heap),
+            pairs: Vec::new(heap),
+        }
+    }
+}
+
+// Whether there is an entry of this number, or it is the next one.
+pub(crate) fn has_place<T>(entries: &Vec<T>, number: usize) -> bool {
+    number <= entries.len()
+}
+
+// Puts an entry in the place of an earlier one, or after the last; false for want of memory, and then nothing is put.
+pub(crate) fn put<T: Drop>(entries: &mut Vec<T>, number: usize, entry: T) -> bool {
+    if number < entries.len() {
+        entries[number] = entry;
+        return true;
+    }
+    entries.push(entry).is_ok()
+}
+
+// A seat's part of a row, after those that were gathered before.
+pub(crate) fn gather<'a, R: Notation>(
+    parts: &mut Vec<R>,
+    row: &Vec<R>,
+    seat: usize,
+) -> Result<(), Trouble<'a>> {
+    let Some(part) = row.get(seat.saturating_sub(1)) else {
+        return Ok(());
+    };
+    if parts.push(*part).is_err() {
+        return Err(Trouble::Memory);
+    }
+    Ok(())
+}
