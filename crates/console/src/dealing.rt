@@ -1,5 +1,7 @@
 // The tables of shares that a node or a bench is lent: how many seats and which threshold, and every seat's parts of the inputs
 // and of the pairs.
+ghost use Rattle.std.specs.Prelude.{◌≡◌, []};
+
 use crate::notation::Notation;
 use crate::trouble::Trouble;
 use std::alloc::Global;
@@ -21,7 +23,10 @@ pub(crate) struct Pair<R> {
 }
 
 impl<R: Notation> Dealing<R> {
-    pub(crate) fn new(heap: Global) -> Dealing<R> {
+    pub(crate) fn new(heap: Global) -> Dealing<R>
+        ensures rows { (result.inputs.items ≡ []) × (result.pairs.items ≡ []) }
+        ensures numbers { (result.seats ≡ 0) × (result.threshold ≡ 0) }
+    {
         Dealing {
             seats: 0,
             threshold: 0,

@@ -1,5 +1,6 @@
 // What a session keeps between commands, in the ring that is chosen.
-ghost use Rattle.std.specs.Prelude.{◌≡◌, [], None, OnErr};
+ghost use Rattle.std.specs.Prelude.{◌≡◌, OnErr};
+ghost use Rattle.console.specs.Sessions.{IsBare};
 
 use crate::answer::Answer;
 use crate::any_exchange::AnyExchange;
@@ -26,7 +27,7 @@ pub(crate) struct Desk<R> {
 
 impl<R: Notation> Desk<R> {
     pub(crate) fn new(heap: Global) -> Desk<R>
-        ensures { (result.codes.items ≡ []) × (result.constants.items ≡ []) × (result.exchange ≡ None) }
+        ensures { IsBare result }
     {
         Desk {
             codes: Vec::new(heap),

@@ -3,6 +3,7 @@ ghost use Rattle.std.specs.Prelude.{◌≡◌, MatchOption, OnErr, ◌≢◌};
 ghost use Rattle.console.specs.Names.{nodes_name};
 
 use crate::answer::Answer;
+use crate::curves::MOST_SEATS;
 use crate::dealing::{Dealing, Pair, gather, has_place, put};
 use crate::desk::Desk;
 use crate::notation::{Notation, read_number};
@@ -12,9 +13,6 @@ use curve::refusal::Refusal;
 use encoding::methods::Standard;
 use node::{Lent, Node};
 use std::alloc::Global;
-
-// More seats than these are refused before the length of a table matters.
-const MOST_SEATS: usize = 31;
 
 // A node at work: its seat's number and its work table.
 #[derive(Drop)]

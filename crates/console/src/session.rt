@@ -1,7 +1,7 @@
 // One run of the console: which ring is chosen, and which commands there are.
 ghost use Rattle.std.specs.Prelude.{◌≡◌, MatchOption, OnErr, ◌≢◌};
 ghost use Rattle.console.specs.Names.{ring_name};
-ghost use Rattle.console.specs.Sessions.{chosen_of};
+ghost use Rattle.console.specs.Sessions.{chosen_of, IsBlank};
 
 use crate::answer::Answer;
 use crate::desk::Desk;
@@ -62,7 +62,8 @@ impl Chosen {
 
     // A session in this ring with nothing kept yet.
     fn begin(self, heap: Global) -> Session
-        ensures { chosen_of result ≡ self }
+        ensures ring { chosen_of result ≡ self }
+        ensures blank { IsBlank result }
     {
         match self {
             Chosen::W4 => Session::W4(Desk::new(heap)),
@@ -73,7 +74,8 @@ impl Chosen {
 
 impl Session {
     pub(crate) fn new(heap: Global) -> Session
-        ensures { chosen_of result ≡ Chosen.W4 }
+        ensures ring { chosen_of result ≡ Chosen.W4 }
+        ensures blank { IsBlank result }
     {
         Chosen::W4.begin(heap)
     }
