@@ -116,7 +116,8 @@ impl<R: Notation> Call<R> {
     }
 }
 
-fn done<R>(outcome: Result<(), Refusal>) -> Answer<R>
+// What is answered of a call that answers nothing.
+pub(crate) fn done<R>(outcome: Result<(), Refusal>) -> Answer<R>
     ensures { result ≡ placing outcome }
 {
     match outcome {

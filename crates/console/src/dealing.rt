@@ -1,9 +1,10 @@
 // The tables of shares that a node or a bench is lent: how many seats and which threshold, and every seat's parts of the inputs
 // and of the pairs.
-ghost use Rattle.std.specs.Prelude.{◌≡◌, []};
+ghost use Rattle.std.specs.Prelude.{◌≡◌, ◌∷◌, ◌++◌, [], nat_lt, slice_set, if◌then◌else◌, vec_len, IfOk, OnErr};
 
 use crate::notation::Notation;
 use crate::trouble::Trouble;
+use curve::refusal::Refusal;
 use std::alloc::Global;
 
 #[derive(Drop)]
@@ -41,13 +42,19 @@ pub(crate) fn has_place<T>(entries: &Vec<T>, number: usize) -> bool {
     number <= entries.len()
 }
 
-// Puts an entry in the place of an earlier one, or after the last; false for want of memory, and then nothing is put.
-pub(crate) fn put<T: Drop>(entries: &mut Vec<T>, number: usize, entry: T) -> bool {
+// Puts an entry in the place of an earlier one, or after the last. Want of memory is a refusal, which puts nothing.
+pub(crate) fn put<T: Drop>(entries: &mut Vec<T>, number: usize, entry: T) -> Result<(), Refusal>
+    ensures put { IfOk result (λ _. entries.new.items ≡ (if nat_lt number (vec_len entries.old) then slice_set entries.old.items number entry else entries.old.items ++ entry ∷ [])) }
+    ensures refused { OnErr result (entries.new.items ≡ entries.old.items) }
+{
     if number < entries.len() {
         entries[number] = entry;
-        return true;
+        return Ok(());
     }
-    entries.push(entry).is_ok()
+    match entries.push(entry) {
+        Ok(()) => Ok(()),
+        Err(_) => Err(Refusal::Memory),
+    }
 }
 
 // A seat's part of a row, after those that were gathered before.

@@ -40,7 +40,7 @@ impl Exchanges {
         words: Words<'a>,
         desk: &mut Desk<R>,
     ) -> Result<Answer<R>, Trouble<'a>>
-        ensures misread { OnErr result (desk.new ≡ desk.old) }
+        ensures unchanged { OnErr result (desk.new ≡ desk.old) }
         ensures kept { (desk.new.codes ≡ desk.old.codes) × (desk.new.constants ≡ desk.old.constants) }
     {
         let line = words.line();
@@ -64,7 +64,7 @@ fn make<'a, R: Notation>(
     mut words: Words<'a>,
     desk: &mut Desk<R>,
 ) -> Result<Answer<R>, Trouble<'a>>
-    ensures misread { OnErr result (desk.new ≡ desk.old) }
+    ensures unchanged { OnErr result (desk.new ≡ desk.old) }
     ensures refusal { (e : Refusal) → result ≡ Ok (Answer.Refused e) → desk.new ≡ desk.old }
     ensures kept { (desk.new.codes ≡ desk.old.codes) × (desk.new.constants ≡ desk.old.constants) }
 {

@@ -3,6 +3,7 @@ ghost use Rattle.std.specs.Prelude.{◌≡◌, MatchOption, OnErr, ◌≢◌};
 ghost use Rattle.console.specs.Names.{nodes_name};
 
 use crate::answer::Answer;
+use crate::any_exchange::done;
 use crate::curves::MOST_SEATS;
 use crate::dealing::{Dealing, Pair, gather, has_place, put};
 use crate::desk::Desk;
@@ -149,17 +150,8 @@ fn input<'a, R: Notation>(
     }
     counted(line, &given, dealt, dealing.seats)?;
     match row(heap, given, dealt, dealing.seats, dealing.threshold)? {
-        Ok(parts) => Ok(kept(put(&mut dealing.inputs, number, parts))),
+        Ok(parts) => Ok(done(put(&mut dealing.inputs, number, parts))),
         Err(refusal) => Ok(Answer::Refused(refusal)),
-    }
-}
-
-// What is answered of a row that is to be kept.
-fn kept<R>(put: bool) -> Answer<R> {
-    if put {
-        Answer::Done
-    } else {
-        Answer::Refused(Refusal::Memory)
     }
 }
 
@@ -188,7 +180,7 @@ fn pair<'a, R: Notation>(
     let high = row(heap, given, dealt, dealing.seats, twice)?;
     let low = row(heap, lows, dealt, dealing.seats, dealing.threshold)?;
     match (high, low) {
-        (Ok(high), Ok(low)) => Ok(kept(put(&mut dealing.pairs, number, Pair { high, low }))),
+        (Ok(high), Ok(low)) => Ok(done(put(&mut dealing.pairs, number, Pair { high, low }))),
         (Err(refusal), _) => Ok(Answer::Refused(refusal)),
         (_, Err(refusal)) => Ok(Answer::Refused(refusal)),
     }
