@@ -1,9 +1,13 @@
 -- The openings of a list, gate by gate.
-use Rattle.std.proofs.Common.{◌≡◌, ℕ, zero, suc, ◌+◌, ◌<◌, ◌≤◌, List, [], ◌∷◌, ◌++◌, length, get_or, sym, refl, ap, ◌∙◌, ap₂, add-zero, add-one, arith, length-append}
-use Rattle.std.proofs.lemmas.List.{append-nil}
-use Rattle.circuit.specs.Codes.{Parts, parts_of}
-use Rattle.circuit.specs.Kinds.{Gate, Mul, Out, gate_by, gate_at}
+use Rattle.std.proofs.Common.{◌≡◌, ℕ, zero, suc, ◌+◌, ◌<◌, ◌≤◌, Bool, cond, eqb, List, [], ◌∷◌, ◌++◌, length, get_or, take, sym, refl, ap, ◌∙◌, ap₂, add-zero, add-one, arith, length-append}
+use Rattle.std.specs.List.{count_by}
+use Rattle.std.proofs.lemmas.List.{append-nil, take_all}
+use Rattle.std.proofs.lemmas.List.Sums.{sum_by_more}
+use Rattle.circuit.specs.Codes.{kind_of, detail_of, first_of, second_of}
+use Rattle.circuit.specs.Kinds.{Gate, In, Add, Sub, Scale, Offset, Place, Mul, Out, kind_by, gate_in, gate_of, gate_at}
 use Rattle.circuit.specs.Openings.{product_count, output_count, products, outputs, opening_by, openings_before, openings_of}
+use Rattle.circuit.specs.declared.kinds.Kind.{Kind}
+use Rattle.circuit.specs.declared.kinds.Kind.TheVariants as kind
 use Rattle.circuit.specs.declared.openings.Opening.{Opening}
 use Rattle.circuit.specs.declared.openings.Opening.TheVariants.{Product, Output}
 
@@ -26,9 +30,13 @@ found_none codes items none = record {
   few_numbers = omega arith;
 }
 
-module _ {codes : List ℕ} {g : ℕ} {items : List Opening} {pair number : ℕ} (f : Found codes g items pair number) (p : Parts) (ep : p ≡ parts_of (get_or codes g 0)) where
-  gate_is : gate_at codes g ≡ gate_by p.0 p.1 p.2 p.3
-  gate_is = ap (λ q. gate_by q.0 q.1 q.2 q.3) (sym ep)
+module _ {codes : List ℕ} {g : ℕ} {items : List Opening} {pair number : ℕ} (f : Found codes g items pair number) (k : Kind) (ek : k ≡ kind_by (kind_of (get_or codes g 0))) where
+  -- the gate, were it of this kind
+  abbrev of_kind : Kind → Gate
+  of_kind k = gate_in k (detail_of (get_or codes g 0)) (first_of (get_or codes g 0)) (second_of (get_or codes g 0))
+
+  gate_is : (j : Kind) → k ≡ j → gate_at codes g ≡ of_kind j
+  gate_is j e = ap of_kind (sym ek ∙ e)
 
   -- one gate more, by the openings that it is
   more : (gate : Gate) → gate_at codes g ≡ gate → (next : List Opening) (pair' number' : ℕ) → next ≡ items ++ opening_by g pair number gate
@@ -48,70 +56,60 @@ module _ {codes : List ℕ} {g : ℕ} {items : List Opening} {pair number : ℕ}
         few_numbers = n3;
       }
 
-  pub found_product : p.0 ≡ 6 → (next : List Opening) (pair' number' : ℕ) → next ≡ items ++ (Product g pair ∷ []) → pair' ≡ pair + 1 → number' ≡ number → Found codes (g + 1) next pair' number'
-  found_product kind next pair' number' en e-pair e-number =
-      more (Mul p.1 p.2 p.3) (gate_is ∙ ap (λ k. gate_by k p.1 p.2 p.3) kind) next pair' number' en e-pair (e-number ∙ sym (add-zero number))
+  pub found_product : k ≡ kind.Mul → (next : List Opening) (pair' number' : ℕ) → next ≡ items ++ (Product g pair ∷ []) → pair' ≡ pair + 1 → number' ≡ number → Found codes (g + 1) next pair' number'
+  found_product is next pair' number' en e-pair e-number =
+      more (of_kind kind.Mul) (gate_is kind.Mul is) next pair' number' en e-pair (e-number ∙ sym (add-zero number))
       (let l : length next ≡ length items + 1 = ap length en ∙ length-append items (Product g pair ∷ []) in omega (arith, f.few)) (omega (arith, f.few_pairs)) (omega (arith, f.few_numbers))
 
-  pub found_output : p.0 ≡ 7 → (next : List Opening) (pair' number' : ℕ) → next ≡ items ++ (Output g number ∷ []) → pair' ≡ pair → number' ≡ number + 1 → Found codes (g + 1) next pair' number'
-  found_output kind next pair' number' en e-pair e-number =
-      more (Out p.2) (gate_is ∙ ap (λ k. gate_by k p.1 p.2 p.3) kind) next pair' number' en (e-pair ∙ sym (add-zero pair)) e-number
+  pub found_output : k ≡ kind.Out → (next : List Opening) (pair' number' : ℕ) → next ≡ items ++ (Output g number ∷ []) → pair' ≡ pair → number' ≡ number + 1 → Found codes (g + 1) next pair' number'
+  found_output is next pair' number' en e-pair e-number =
+      more (of_kind kind.Out) (gate_is kind.Out is) next pair' number' en (e-pair ∙ sym (add-zero pair)) e-number
       (let l : length next ≡ length items + 1 = ap length en ∙ length-append items (Output g number ∷ []) in omega (arith, f.few)) (omega (arith, f.few_pairs)) (omega (arith, f.few_numbers))
 
   -- a gate that is no opening
   module _ (next : List Opening) (pair' number' : ℕ) (en : next ≡ items) (e-pair : pair' ≡ pair) (e-number : number' ≡ number) where
-    silent : (k : ℕ) → p.0 ≡ k → opening_by g pair number (gate_by k p.1 p.2 p.3) ≡ [] → product_count (gate_by k p.1 p.2 p.3) ≡ 0 → output_count (gate_by k p.1 p.2 p.3) ≡ 0
-        → Found codes (g + 1) next pair' number'
-    silent k kind o a b =
-        more (gate_by k p.1 p.2 p.3) (gate_is ∙ ap (λ k. gate_by k p.1 p.2 p.3) kind) next pair' number' (en ∙ sym (ap (λ l. items ++ l) o ∙ append-nil items)) (omega arith) (omega arith)
+    silent : (j : Kind) → k ≡ j → opening_by g pair number (of_kind j) ≡ [] → product_count (of_kind j) ≡ 0 → output_count (of_kind j) ≡ 0 → Found codes (g + 1) next pair' number'
+    silent j is o a b =
+        more (of_kind j) (gate_is j is) next pair' number' (en ∙ sym (ap (λ l. items ++ l) o ∙ append-nil items)) (omega arith) (omega arith)
         (let l : length next ≡ length items = ap length en in omega (arith, f.few)) (omega (arith, f.few_pairs)) (omega (arith, f.few_numbers))
 
-    pub found_other : (k : ℕ) → p.0 ≡ k → k < 6 → Found codes (g + 1) next pair' number'
-    found_other zero e h = silent 0 e refl refl refl
-    found_other (suc zero) e h = silent 1 e refl refl refl
-    found_other (suc (suc zero)) e h = silent 2 e refl refl refl
-    found_other (suc (suc (suc zero))) e h = silent 3 e refl refl refl
-    found_other (suc (suc (suc (suc zero)))) e h = silent 4 e refl refl refl
-    found_other (suc (suc (suc (suc (suc zero))))) e h = silent 5 e refl refl refl
-    found_other (suc (suc (suc (suc (suc (suc k)))))) e h = let z : ⊥ = omega arith in absurd z
+    pub found_other : (j : Kind) → k ≡ j → (j ≡ kind.Mul → ⊥) → (j ≡ kind.Out → ⊥) → Found codes (g + 1) next pair' number'
+    found_other kind.In e m o = silent kind.In e refl refl refl
+    found_other kind.Add e m o = silent kind.Add e refl refl refl
+    found_other kind.Sub e m o = silent kind.Sub e refl refl refl
+    found_other kind.Scale e m o = silent kind.Scale e refl refl refl
+    found_other kind.Offset e m o = silent kind.Offset e refl refl refl
+    found_other kind.Place e m o = silent kind.Place e refl refl refl
+    found_other kind.Mul e m o = absurd (m refl)
+    found_other kind.Out e m o = absurd (o refl)
 
 pub found_all : {codes : List ℕ} {g : ℕ} {items : List Opening} {pair number : ℕ} → Found codes g items pair number → g ≤ length codes → length codes ≤ g → items ≡ openings_of codes
 found_all {codes} {g} f low high = f.are ∙ ap (openings_before codes) (let same : g ≡ length codes = omega arith in same)
 
--- how many of the first g gates are products
-pub record Counted (codes : List ℕ) (g count : ℕ) : Type 0 where
-  pub is : count ≡ products codes g
-  pub few : count ≤ g
+-- products counted from the codes
+abbrev pub is_product : ℕ → Bool
+is_product code = eqb (product_count (gate_of code)) 1
 
-product_by : (k d a b : ℕ) → (k ≡ 6 → ⊥) → product_count (gate_by k d a b) ≡ 0
-product_by zero d a b h = refl
-product_by (suc zero) d a b h = refl
-product_by (suc (suc zero)) d a b h = refl
-product_by (suc (suc (suc zero))) d a b h = refl
-product_by (suc (suc (suc (suc zero)))) d a b h = refl
-product_by (suc (suc (suc (suc (suc zero))))) d a b h = refl
-product_by (suc (suc (suc (suc (suc (suc zero)))))) d a b h = absurd (h refl)
-product_by (suc (suc (suc (suc (suc (suc (suc k))))))) d a b h = refl
+one_product : (gate : Gate) → cond (eqb (product_count gate) 1) 1 0 ≡ product_count gate
+one_product (In l i) = refl
+one_product (Add a b) = refl
+one_product (Sub a b) = refl
+one_product (Scale a c) = refl
+one_product (Offset a c) = refl
+one_product (Place l a k) = refl
+one_product (Mul m a b) = refl
+one_product (Out a) = refl
 
-module _ {codes : List ℕ} {g count : ℕ} (c : Counted codes g count) (p : Parts) (ep : p ≡ parts_of (get_or codes g 0)) where
-  gate_here : gate_at codes g ≡ gate_by p.0 p.1 p.2 p.3
-  gate_here = ap (λ q. gate_by q.0 q.1 q.2 q.3) (sym ep)
+counted_to : (codes : List ℕ) (g : ℕ) → g ≤ length codes → count_by is_product (take g codes) ≡ products codes g
+counted_to codes zero h = refl
+counted_to codes (suc g) h =
+    let less : g < length codes = omega arith in
+    let before : g ≤ length codes = omega arith in
+    ap (λ n. count_by is_product (take n codes)) (sym (add-one g))
+    ∙ sum_by_more (λ x. cond (is_product x) 1 0) codes g 0 less
+    ∙ ap₂ ◌+◌ (counted_to codes g before) (one_product (gate_at codes g))
 
-  pub counted_more : p.0 ≡ 6 → (next : ℕ) → next ≡ count + 1 → Counted codes (g + 1) next
-  counted_more kind next e = record {
-    is =
-        e
-        ∙ ap₂ ◌+◌ c.is (sym (ap product_count (gate_here ∙ ap (λ k. gate_by k p.1 p.2 p.3) kind)))
-        ∙ ap (products codes) (sym (add-one g));
-    few = omega (arith, c.few);
-  }
-
-  pub counted_same : (p.0 ≡ 6 → ⊥) → (next : ℕ) → next ≡ count → Counted codes (g + 1) next
-  counted_same other next e = record {
-    is =
-        e
-        ∙ sym (add-zero count)
-        ∙ ap₂ ◌+◌ c.is (sym (ap product_count gate_here ∙ product_by p.0 p.1 p.2 p.3 other))
-        ∙ ap (products codes) (sym (add-one g));
-    few = omega (arith, c.few);
-  }
+pub counted : (codes : List ℕ) → count_by is_product codes ≡ products codes (length codes)
+counted codes =
+    let whole : length codes ≤ length codes = omega arith in
+    ap (count_by is_product) (sym (take_all (length codes) codes whole)) ∙ counted_to codes (length codes) whole

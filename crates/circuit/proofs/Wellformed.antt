@@ -1,18 +1,19 @@
 -- Every gate of a list that is taken fits.
 use Rattle.std.proofs.Common.{◌≡◌, ℕ, zero, suc, ◌+◌, ◌<◌, ◌≤◌, Bool, true, false, cond, not, ◌&&◌, eqb, ltb, List, [], ◌∷◌, ◌++◌, length, get_or, take, Some, Ok, Err, Result, sym, refl, ap, ◌∙◌, inl, inr, add-zero, zero-add, add-one, arith, length-append}
-use Rattle.std.proofs.lemmas.Bool.{and_parts, ltb-true, eqb-true, eq-eqb, cases_eq}
+use Rattle.std.proofs.lemmas.List.{take_all, get_or-take}
+use Rattle.std.proofs.lemmas.Bool.{false≢true, and_parts, ltb-true, eqb-true, eq-eqb, cases_eq}
 use Rattle.curve.specs.declared.refusal.Refusal.{Refusal}
 use Rattle.curve.specs.declared.refusal.Refusal.TheVariants.{Length}
 use Rattle.encoding.specs.Numbers.{layout_of, number_of}
 use Rattle.encoding.specs.declared.layout.Layout.{Layout}
 use Rattle.encoding.specs.declared.layout.Layout.TheVariants.{Plain, Lanes, Left, Right}
-use Rattle.circuit.specs.Gates.{Setting, kind_of, detail_of, first_of, second_of, operand, layout_at, same_layout, judged, rule, gate_judged}
-use Rattle.circuit.specs.Kinds.{gate_by}
+use Rattle.circuit.specs.Codes.{kind_of, detail_of, first_of, second_of}
+use Rattle.circuit.specs.Gates.{Setting, operand, layout_at, same_layout, judged, rule, gate_judged}
+use Rattle.circuit.specs.Kinds.{kind_by, gate_in}
 use Rattle.circuit.specs.Lists.{check_from, lengths_wrong}
 use Rattle.circuit.specs.Wellformed.{Operand, Fits, TakenListsFit}
-
-no_err : {A : Type 0} {e : Refusal} {x : A} → Err e ≡ Ok x → ⊥
-no_err h = let z : ◌≡◌ {A = ℕ} 0 1 = cc in omega arith
+use Rattle.circuit.specs.declared.kinds.Kind.{Kind}
+use Rattle.circuit.specs.declared.kinds.Kind.TheVariants as kind
 
 pub record JudgedSo (d o y : Bool) (l m : Layout) : Type 0 where
   pub detail : d ≡ true
@@ -22,9 +23,9 @@ pub record JudgedSo (d o y : Bool) (l m : Layout) : Type 0 where
 
 judged_ok : (d o y : Bool) (l m : Layout) → judged d o y l ≡ Ok m → JudgedSo d o y l m
 judged_ok true true true l m e = record { detail = refl; operands = refl; layouts = refl; own = cc }
-judged_ok true true false l m e = absurd (no_err e)
-judged_ok true false y l m e = absurd (no_err e)
-judged_ok false o y l m e = absurd (no_err e)
+judged_ok true true false l m e = cc
+judged_ok true false y l m e = cc
+judged_ok false o y l m e = cc
 
 numbered : (l : Layout) → layout_of (number_of l) ≡ Some l
 numbered Plain = refl
@@ -38,16 +39,9 @@ same_is l m e =
     let some : Some l ≡ Some m = sym (numbered l) ∙ ap layout_of n ∙ numbered m in
     cc
 
-take_at : (layouts : List Layout) (g a : ℕ) → a < g → layout_at (take g layouts) a ≡ layout_at layouts a
-take_at [] zero a h = refl
-take_at [] (suc g) a h = refl
-take_at (l ∷ layouts) zero a h = let z : ⊥ = omega arith in absurd z
-take_at (l ∷ layouts) (suc g) zero h = refl
-take_at (l ∷ layouts) (suc g) (suc a) h = let k : a < g = omega arith in take_at layouts g a k
-
 not_true : (b : Bool) → not b ≡ true → b ≡ true → ⊥
-not_true true e h = let z : ◌≡◌ {A = ℕ} 0 1 = cc in omega arith
-not_true false e h = let z : ◌≡◌ {A = ℕ} 0 1 = cc in omega arith
+not_true true e h = false≢true e
+not_true false e h = false≢true h
 
 module _ (S : Setting) (codes : List ℕ) (layouts : List Layout) (g : ℕ) where
   an_operand : (a : ℕ) (l : Layout) → operand codes g a ≡ true → (a < g → layout_at layouts a ≡ l) → Operand S codes layouts g a l
@@ -61,64 +55,51 @@ module _ (S : Setting) (codes : List ℕ) (layouts : List Layout) (g : ℕ) wher
   two d a b m e =
       let j = judged_ok _ _ _ _ _ e in
       let o = and_parts _ _ j.operands in (
-        an_operand a m o.0 (λ less. sym (take_at layouts g a less) ∙ j.own),
-        an_operand b m o.1 (λ less. sym (take_at layouts g b less) ∙ sym (same_is _ _ j.layouts) ∙ j.own),
+        an_operand a m o.0 (λ less. sym (get_or-take g layouts a Plain less) ∙ j.own),
+        an_operand b m o.1 (λ less. sym (get_or-take g layouts b Plain less) ∙ sym (same_is _ _ j.layouts) ∙ j.own),
       )
 
   one : (d a b : ℕ) (m : Layout) → judged (eqb d 0) (operand codes g a && ltb b S.constants) true (layout_at (take g layouts) a) ≡ Ok m → Operand S codes layouts g a m × (b < S.constants)
   one d a b m e =
       let j = judged_ok _ _ true _ _ e in
       let o = and_parts _ _ j.operands in
-      (an_operand a m o.0 (λ less. sym (take_at layouts g a less) ∙ j.own), ltb-true _ _ o.1)
+      (an_operand a m o.0 (λ less. sym (get_or-take g layouts a Plain less) ∙ j.own), ltb-true _ _ o.1)
 
   -- by the kind, the fields being what they are
-  fits_by : (k d a b : ℕ) (m : Layout) → rule S codes (take g layouts) g d a b k ≡ Ok m → Fits S codes layouts g m (gate_by k d a b)
-  fits_by zero d a b m e = let j = judged_ok _ _ _ _ _ e in (ltb-true _ _ j.operands, j.own)
-  fits_by (suc zero) d a b m e = two d a b m e
-  fits_by (suc (suc zero)) d a b m e = two d a b m e
-  fits_by (suc (suc (suc zero))) d a b m e = one d a b m e
-  fits_by (suc (suc (suc (suc zero)))) d a b m e = one d a b m e
-  fits_by (suc (suc (suc (suc (suc zero))))) d a b m e =
+  fits_by : (k : Kind) (d a b : ℕ) (m : Layout) → rule S codes (take g layouts) g d a b k ≡ Ok m → Fits S codes layouts g m (gate_in k d a b)
+  fits_by kind.In d a b m e = let j = judged_ok _ _ _ _ _ e in (ltb-true _ _ j.operands, j.own)
+  fits_by kind.Add d a b m e = two d a b m e
+  fits_by kind.Sub d a b m e = two d a b m e
+  fits_by kind.Scale d a b m e = one d a b m e
+  fits_by kind.Offset d a b m e = one d a b m e
+  fits_by kind.Place d a b m e =
       let j = judged_ok _ _ _ _ _ e in
       let o = and_parts _ _ j.operands in
-      (an_operand a Plain o.0 (λ less. sym (take_at layouts g a less) ∙ same_is _ _ j.layouts), ltb-true _ _ o.1, j.own)
-  fits_by (suc (suc (suc (suc (suc (suc zero)))))) d a b m e =
+      (an_operand a Plain o.0 (λ less. sym (get_or-take g layouts a Plain less) ∙ same_is _ _ j.layouts), ltb-true _ _ o.1, j.own)
+  fits_by kind.Mul d a b m e =
       let j = judged_ok _ _ _ _ _ e in
       let o = and_parts _ _ j.operands in
       let y = and_parts _ _ j.layouts in (
         ltb-true _ _ j.detail,
-        an_operand a (S.method d).left o.0 (λ less. sym (take_at layouts g a less) ∙ same_is _ _ y.0),
-        an_operand b (S.method d).right o.1 (λ less. sym (take_at layouts g b less) ∙ same_is _ _ y.1),
+        an_operand a (S.method d).left o.0 (λ less. sym (get_or-take g layouts a Plain less) ∙ same_is _ _ y.0),
+        an_operand b (S.method d).right o.1 (λ less. sym (get_or-take g layouts b Plain less) ∙ same_is _ _ y.1),
         j.own,
       )
-  fits_by (suc (suc (suc (suc (suc (suc (suc k))))))) d a b m e =
+  fits_by kind.Out d a b m e =
       let j = judged_ok _ _ true _ _ e in
-      an_operand a m j.operands (λ less. sym (take_at layouts g a less) ∙ j.own)
-
-take_whole : (xs : List Layout) → take (length xs) xs ≡ xs
-take_whole [] = refl
-take_whole (x ∷ xs) = ap (λ l. x ∷ l) (take_whole xs)
-
-tail_of : {x y : Layout} {xs ys : List Layout} → x ∷ xs ≡ y ∷ ys → xs ≡ ys
-tail_of e = cc
-
-head_of : {x y : Layout} {xs ys : List Layout} → x ∷ xs ≡ y ∷ ys → x ≡ y
-head_of e = cc
-
-no_nil : {x : Layout} {xs : List Layout} → [] ≡ x ∷ xs → ⊥
-no_nil e = let z : ◌≡◌ {A = ℕ} 0 1 = cc in omega arith
+      an_operand a m j.operands (λ less. sym (get_or-take g layouts a Plain less) ∙ j.own)
 
 -- a list that begins with some layouts and one more
 prefix : (before : List Layout) (l : Layout) (layouts : List Layout) → take (suc (length before)) layouts ≡ before ++ (l ∷ []) → take (length before) layouts ≡ before
 prefix [] l layouts e = refl
-prefix (x ∷ before) l [] e = absurd (no_nil e)
-prefix (x ∷ before) l (y ∷ layouts) e = let rest = prefix before l layouts (tail_of e) in let one : y ≡ x = head_of e in cc
+prefix (x ∷ before) l [] e = cc
+prefix (x ∷ before) l (y ∷ layouts) e = let rest = prefix before l layouts cc in cc
 
 last_of : (before : List Layout) (l : Layout) (layouts : List Layout) → take (suc (length before)) layouts ≡ before ++ (l ∷ []) → layout_at layouts (length before) ≡ l
-last_of [] l [] e = absurd (no_nil e)
-last_of [] l (y ∷ layouts) e = head_of e
-last_of (x ∷ before) l [] e = absurd (no_nil e)
-last_of (x ∷ before) l (y ∷ layouts) e = last_of before l layouts (tail_of e)
+last_of [] l [] e = cc
+last_of [] l (y ∷ layouts) e = cc
+last_of (x ∷ before) l [] e = cc
+last_of (x ∷ before) l (y ∷ layouts) e = last_of before l layouts cc
 
 module _ (S : Setting) (codes : List ℕ) where
   -- what is known once n gates after the first ones are judged
@@ -132,7 +113,7 @@ module _ (S : Setting) (codes : List ℕ) where
       → ((l : Layout) → check_from S codes (before ++ (l ∷ [])) n ≡ Ok layouts → Rest (before ++ (l ∷ [])) layouts n)
       → (r : Result Layout Refusal) → gate_judged S codes before (length before) ≡ r
       → ◌≡◌ {A = Result (List Layout) Refusal} (elim r [ Ok l ↦ check_from S codes (before ++ (l ∷ [])) n | Err x ↦ Err x ]) (Ok layouts) → Rest before layouts (suc n)
-  one_more before n layouts ih (Err x) er e = absurd (no_err e)
+  one_more before n layouts ih (Err x) er e = cc
   one_more before n layouts ih (Ok l) er e =
       let h = ih l e in
       let up : length (before ++ (l ∷ [])) ≡ suc (length before) = length-append before (l ∷ []) ∙ add-one (length before) in
@@ -157,13 +138,13 @@ module _ (S : Setting) (codes : List ℕ) where
       let same : before ≡ layouts = cc in
       record {
         long = ap length (sym same) ∙ sym (add-zero (length before));
-        starts = ap (take (length before)) (sym same) ∙ take_whole before;
+        starts = ap (take (length before)) (sym same) ∙ take_all (length before) before (omega arith);
         each = λ g low high. let z : ⊥ = omega arith in absurd z;
       }
   rest_of before (suc n) layouts e = one_more before n layouts (λ l. rest_of (before ++ (l ∷ [])) n layouts) (gate_judged S codes before (length before)) refl e
 
   lengths_right : (b : Bool) (x : Result (List Layout) Refusal) (layouts : List Layout) → cond b (Err Length) x ≡ Ok layouts → x ≡ Ok layouts
-  lengths_right true x layouts e = absurd (no_err e)
+  lengths_right true x layouts e = cc
   lengths_right false x layouts e = e
 
 pub taken_lists_fit : TakenListsFit
@@ -172,5 +153,5 @@ taken_lists_fit S codes layouts e =
       r.long ∙ zero-add (length codes),
       λ g h.
           let c = get_or codes g 0 in
-          fits_by S codes layouts g (kind_of c) (detail_of c) (first_of c) (second_of c) (layout_at layouts g) (r.each g (omega arith) (omega arith)),
+          fits_by S codes layouts g (kind_by (kind_of c)) (detail_of c) (first_of c) (second_of c) (layout_at layouts g) (r.each g (omega arith) (omega arith)),
     )

@@ -11,6 +11,18 @@ parts_of code = (code / 2 ^ 29, code / 2 ^ 26 % 2 ^ 3, code / 2 ^ 13 % 2 ^ 13, c
 abbrev pub code_of : ℕ → ℕ → ℕ → ℕ → ℕ
 code_of kind detail first second = kind * 2 ^ 29 + detail * 2 ^ 26 + first * 2 ^ 13 + second
 
+abbrev pub kind_of : ℕ → ℕ
+kind_of code = (parts_of code).0
+
+abbrev pub detail_of : ℕ → ℕ
+detail_of code = (parts_of code).1
+
+abbrev pub first_of : ℕ → ℕ
+first_of code = (parts_of code).2
+
+abbrev pub second_of : ℕ → ℕ
+second_of code = (parts_of code).3
+
 -- each part fits its field
 abbrev pub fitting : ℕ → ℕ → ℕ → ℕ → Bool
 fitting kind detail first second = nat_lt kind (2 ^ 3) && nat_lt detail (2 ^ 3) && nat_lt first (2 ^ 13) && nat_lt second (2 ^ 13)

@@ -1,25 +1,18 @@
 -- Which gate is taken, with which layout, and why another is refused. A gate is judged by the gates before it.
-use Rattle.std.specs.Prelude.{ℕ, zero, suc, Bool, true, cond, not, ◌&&◌, List, [], ◌∷◌, length, get_or, take, Some, None, Ok, Err, Result, ◌==◌, nat_lt, slice_index, slice_index_or}
+use Rattle.std.specs.Prelude.{ℕ, Bool, true, cond, not, ◌&&◌, List, length, get_or, take, Ok, Err, Result, ◌==◌, nat_lt, slice_index, slice_index_or}
+use Rattle.std.specs.List.{list_all}
 use Rattle.curve.specs.declared.refusal.Refusal.{Refusal}
 use Rattle.curve.specs.declared.refusal.Refusal.TheVariants.{Detail, Operand, Layout as LayoutDiffers}
 use Rattle.encoding.specs.Encodings.{Enc}
 use Rattle.encoding.specs.Layouts.{positions}
-use Rattle.encoding.specs.Numbers.{layout_of, number_of}
+use Rattle.encoding.specs.Numbers.{number_of}
 use Rattle.encoding.specs.declared.layout.Layout.{Layout}
 use Rattle.encoding.specs.declared.layout.Layout.TheVariants.{Plain}
-use Rattle.circuit.specs.Codes.{parts_of}
-
-abbrev pub kind_of : ℕ → ℕ
-kind_of code = (parts_of code).0
-
-abbrev pub detail_of : ℕ → ℕ
-detail_of code = (parts_of code).1
-
-abbrev pub first_of : ℕ → ℕ
-first_of code = (parts_of code).2
-
-abbrev pub second_of : ℕ → ℕ
-second_of code = (parts_of code).3
+use Rattle.circuit.specs.Codes.{kind_of, detail_of, first_of, second_of}
+use Rattle.circuit.specs.Kinds.{named_layout, kind_by}
+use Rattle.circuit.specs.declared.checked.Limits.{Limits}
+use Rattle.circuit.specs.declared.kinds.Kind.{Kind}
+use Rattle.circuit.specs.declared.kinds.Kind.TheVariants as kind
 
 -- gate a comes before gate g and is no output
 abbrev pub operand : List ℕ → ℕ → ℕ → Bool
@@ -32,14 +25,13 @@ layout_at layouts a = slice_index_or layouts a Plain
 abbrev pub same_layout : Layout → Layout → Bool
 same_layout l m = number_of l == number_of m
 
--- the layout of this number, and plain where there is none
-abbrev pub named_layout : ℕ → Layout
-named_layout n = elim (layout_of n) [ None ↦ Plain | Some l ↦ l ]
+-- a gate gives input i no other layout than l
+abbrev pub input_agrees : ℕ → Layout → ℕ → Bool
+input_agrees i l c = cond (kind_of c == 0 && first_of c == i) (same_layout (named_layout (detail_of c)) l) true
 
 -- no gate of the list has given input i another layout than l
 abbrev pub agrees : List ℕ → ℕ → Layout → Bool
-agrees [] i l = true
-agrees (c ∷ codes) i l = cond (kind_of c == 0 && first_of c == i) (same_layout (named_layout (detail_of c)) l) true && agrees codes i l
+agrees codes i l = list_all (input_agrees i l) codes
 
 -- detail, then operand, then layout
 abbrev pub judged : Bool → Bool → Bool → Layout → Result Layout Refusal
@@ -54,6 +46,10 @@ pub record Setting : Type 0 where
 
 abbrev pub setting : ℕ → ℕ → ℕ → (ℕ → Enc) → Setting
 setting d i c m = record { degree = d; inputs = i; constants = c; method = m }
+
+-- the setting of these limits and methods
+abbrev pub setting_for : Limits → (ℕ → Enc) → Setting
+setting_for limits method = setting limits.degree limits.inputs limits.constants method
 
 -- The rules of the kinds, for gate g with this detail and these two operands.
 module _ (S : Setting) (codes : List ℕ) (layouts : List Layout) (g detail a b : ℕ) where
@@ -84,18 +80,18 @@ module _ (S : Setting) (codes : List ℕ) (layouts : List Layout) (g detail a b 
   abbrev pub rule_out : Result Layout Refusal
   rule_out = judged (detail == 0 && b == 0) (operand codes g a) true (layout_at layouts a)
 
-  abbrev pub rule : ℕ → Result Layout Refusal
-  rule zero = rule_in
-  rule (suc zero) = rule_sum
-  rule (suc (suc zero)) = rule_sum
-  rule (suc (suc (suc zero))) = rule_constant
-  rule (suc (suc (suc (suc zero)))) = rule_constant
-  rule (suc (suc (suc (suc (suc zero))))) = rule_place
-  rule (suc (suc (suc (suc (suc (suc zero)))))) = rule_mul
-  rule (suc (suc (suc (suc (suc (suc (suc kind))))))) = rule_out
+  abbrev pub rule : Kind → Result Layout Refusal
+  rule kind.In = rule_in
+  rule kind.Add = rule_sum
+  rule kind.Sub = rule_sum
+  rule kind.Scale = rule_constant
+  rule kind.Offset = rule_constant
+  rule kind.Place = rule_place
+  rule kind.Mul = rule_mul
+  rule kind.Out = rule_out
 
 -- gate g, by its code and the gates before it
 abbrev pub gate_judged : Setting → List ℕ → List Layout → ℕ → Result Layout Refusal
 gate_judged S codes layouts g =
     let c = get_or codes g 0 in
-    rule S codes layouts g (detail_of c) (first_of c) (second_of c) (kind_of c)
+    rule S codes layouts g (detail_of c) (first_of c) (second_of c) (kind_by (kind_of c))

@@ -1,7 +1,8 @@
 pub mod Codes
-pub mod Gates
-pub mod Lists
 pub mod Kinds
+pub mod Gates
+pub mod Judging
+pub mod Lists
 pub mod Openings
 pub mod Circuits
 pub mod Wellformed

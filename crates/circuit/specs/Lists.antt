@@ -1,5 +1,5 @@
 -- Whole lists of gates: the layouts of all gates, or the first refusal.
-use Rattle.std.specs.Prelude.{◌≡◌, ℕ, zero, suc, Bool, cond, ◌||◌, List, [], ◌∷◌, ◌++◌, length, Ok, Err, Result, ◌==◌, nat_lt}
+use Rattle.std.specs.Prelude.{ℕ, zero, suc, Bool, cond, ◌||◌, List, [], ◌∷◌, ◌++◌, length, Ok, Err, Result, ◌==◌, nat_lt}
 use Rattle.curve.specs.declared.refusal.Refusal.{Refusal}
 use Rattle.curve.specs.declared.refusal.Refusal.TheVariants.{Length}
 use Rattle.encoding.specs.declared.layout.Layout.{Layout}
@@ -17,8 +17,3 @@ lengths_wrong S codes = length codes == 0 || nat_lt 1024 (length codes) || nat_l
 -- length first, then the gates in order
 abbrev pub list_checked : Setting → List ℕ → Result (List Layout) Refusal
 list_checked S codes = cond (lengths_wrong S codes) (Err Length) (check_from S codes [] (length codes))
-
--- the layouts that were written are those of the list, or the refusal is the list's
-abbrev pub LayoutsAre : Result (List Layout) Refusal → List Layout → Result (Unit {0}) Refusal → Type 0
-LayoutsAre checked layouts (Ok o) = checked ≡ Ok layouts
-LayoutsAre checked layouts (Err e) = checked ≡ Err e

@@ -3,7 +3,8 @@ use Rattle.std.specs.Prelude.{◌≡◌, ℕ, ◌<◌, List, length, Ok, slice_i
 use Rattle.encoding.specs.Layouts.{positions}
 use Rattle.encoding.specs.declared.layout.Layout.{Layout}
 use Rattle.encoding.specs.declared.layout.Layout.TheVariants.{Plain}
-use Rattle.circuit.specs.Gates.{Setting, kind_of, layout_at}
+use Rattle.circuit.specs.Codes.{kind_of}
+use Rattle.circuit.specs.Gates.{Setting, layout_at}
 use Rattle.circuit.specs.Kinds.{Gate, In, Add, Sub, Scale, Offset, Place, Mul, Out, gate_at}
 use Rattle.circuit.specs.Lists.{list_checked}
 

@@ -3,14 +3,15 @@
 
 ghost use Rattle.std.specs.Prelude.{◌≡◌};
 ghost use Rattle.circuit.specs.Codes.{parts_of, joined, CodesComeBack, PartsComeBack};
-ghost use Rattle.circuit.specs.Gates.{named_layout};
+ghost use Rattle.circuit.specs.Kinds.{named_layout};
 ghost use Rattle.circuit.specs.Wellformed.{TakenListsFit};
 
 use encoding::layout::Layout;
 
 pub mod checked;
 mod gates;
-pub mod lists;
+pub mod kinds;
+mod lists;
 pub mod openings;
 
 // A gate code taken apart into kind, detail, first and second.
@@ -21,6 +22,7 @@ pub fn split(code: u32) -> (u32, u32, u32, u32)
 }
 
 // The code of these parts, if each fits its field.
+#[tactic(auto, using(crate::proofs::Fields::join_is))]
 pub fn join(kind: u32, detail: u32, first: u32, second: u32) -> Option<u32>
     ensures { result ≡ joined kind detail first second }
 {
@@ -34,10 +36,7 @@ pub fn join(kind: u32, detail: u32, first: u32, second: u32) -> Option<u32>
 pub fn layout_named(number: u32) -> Layout
     ensures { result ≡ named_layout number }
 {
-    match Layout::numbered(number) {
-        Some(layout) => layout,
-        None => Layout::Plain,
-    }
+    Layout::try_from(number).unwrap_or(Layout::Plain)
 }
 
 // Every code is the code of its parts.

@@ -1,14 +1,13 @@
 // Whole lists of gates, checked gate by gate.
-ghost use Rattle.std.specs.Prelude.{◌≡◌, ◌≤◌, false, ◌||◌, ◌⊎◌, length, take, Ok, Err, MatchResult, ◌==◌, nat_lt};
-ghost use Rattle.circuit.specs.Gates.{setting};
-ghost use Rattle.circuit.specs.Lists.{lengths_wrong, list_checked, LayoutsAre};
-ghost use Rattle.curve.specs.declared.refusal.Refusal.TheVariants.{Memory};
+ghost use Rattle.std.specs.Prelude.{◌≡◌, ◌||◌, length, take, Ok, Err, MatchResult, ◌==◌, nat_lt};
+ghost use Rattle.circuit.specs.Gates.{setting_for};
+ghost use Rattle.circuit.specs.Lists.{list_checked};
 
-use crate::gates::{Limits, check_gate};
+use crate::checked::Limits;
+use crate::gates::check_gate;
 use curve::refusal::Refusal;
 use encoding::layout::Layout;
 use encoding::methods::Methods;
-use std::alloc::Global;
 
 // The most gates, inputs and constants that a list may have.
 pub(crate) const MOST: usize = 1024;
@@ -16,57 +15,24 @@ pub(crate) const MOST: usize = 1024;
 fn lengths_refused(limits: Limits, count: usize) -> bool
     ensures { result ≡ (count == 0 || nat_lt 1024 count || nat_lt 1024 limits.inputs || nat_lt 1024 limits.constants) }
 {
-    (count == 0) | (count > MOST) | (limits.inputs > MOST) | (limits.constants > MOST)
+    count == 0 || count > MOST || limits.inputs > MOST || limits.constants > MOST
 }
 
-// Writes the layouts of the gates of a list into the front of a table, or says why the list is refused: length, then the
-// gates in order.
+// The layouts of the gates of a list, at the front of a table, or why the list is refused: length, then the gates in order.
 pub(crate) fn check_list<M: Methods>(
     limits: Limits,
     codes: &[u32],
-    layouts: &mut [Layout],
-) -> Result<(), Refusal>
-    requires { 1024 ≤ length layouts.old }
-    ensures { LayoutsAre (list_checked (setting limits.degree limits.inputs limits.constants M.Methods.method) codes.now) (take (length codes.now) layouts.new) result }
+) -> Result<[Layout; MOST], Refusal>
+    ensures { MatchResult result (λ layouts. list_checked (setting_for limits M.Methods.method) codes.now ≡ Ok (take (length codes.now) layouts)) (λ e. list_checked (setting_for limits M.Methods.method) codes.now ≡ Err e) }
 {
     if lengths_refused(limits, codes.len()) {
         return Err(Refusal::Length);
     }
+    // A list is judged before memory is asked for, so the layouts stand in a fixed table.
+    let mut layouts = [Layout::Plain; MOST];
+    // By number: a layout is written behind those that judge it, and an iterator would hold the table that it writes.
     for gate in 0..codes.len() {
-        match check_gate::<M>(limits, codes, &layouts[0..gate], gate) {
-            Ok(layout) => layouts[gate] = layout,
-            Err(refusal) => return Err(refusal),
-        }
-    }
-    Ok(())
-}
-
-// The layouts of the gates of a list, or why it is refused: length, then the gates in order.
-pub fn check<M: Methods>(
-    heap: Global,
-    degree: usize,
-    inputs: usize,
-    constants: usize,
-    codes: &[u32],
-) -> Result<Vec<Layout>, Refusal>
-    ensures { MatchResult result (λ v. list_checked (setting degree inputs constants M.Methods.method) codes.now ≡ Ok v.items) (λ e. (list_checked (setting degree inputs constants M.Methods.method) codes.now ≡ Err e) ⊎ ((e ≡ Memory) × (lengths_wrong (setting degree inputs constants M.Methods.method) codes.now ≡ false))) }
-{
-    let limits = Limits {
-        degree,
-        inputs,
-        constants,
-    };
-    if lengths_refused(limits, codes.len()) {
-        return Err(Refusal::Length);
-    }
-    let Ok(mut layouts) = Vec::with_capacity(heap, codes.len()) else {
-        return Err(Refusal::Memory);
-    };
-    for gate in 0..codes.len() {
-        match check_gate::<M>(limits, codes, layouts.as_slice(), gate) {
-            Ok(layout) => layouts.push_reserved(layout),
-            Err(refusal) => return Err(refusal),
-        }
+        layouts[gate] = check_gate::<M>(limits, codes, &layouts[..gate], gate)?;
     }
     Ok(layouts)
 }

@@ -4,7 +4,6 @@ use Rattle.std.proofs.lemmas.Bool.{cases_order, cond-false, ne_eqb, le-ltb, lt-l
 use Rattle.ring.specs.Model.{PointLaws, degree}
 use Rattle.ring.specs.declared.Ring.{Ghosts}
 use Rattle.curve.specs.Curve.{El, Opens, curve_refused, seats_wrong}
-use Rattle.curve.specs.declared.Opening.TheVariants.{Fault as OffAt}
 use Rattle.curve.specs.declared.refusal.Refusal.TheVariants.{Seats, Threshold}
 use Rattle.curve.proofs.Theory.{opens_once}
 use Rattle.encoding.specs.declared.layout.Layout.{Layout}
@@ -68,7 +67,7 @@ module _ {R C : Type 0} (G : Ghosts R C) (U : Setup R) (laws : PointLaws G.shape
       ∙ cond-false (leb n (degree_of U.threshold o)) (Some Threshold) None (lt-leb n (degree_of U.threshold o) (omega arith))
 
   rows_agree : (o : Opening) (g h s r : ℕ) → Stops G U.layouts U.threshold row o (Row g s) → Stops G U.layouts U.threshold row o (Row h r) → Row g s ≡ Row h r
-  rows_agree o g h s r a b = ap₂ Row (a.0 ∙ sym b.0) (opens_once G laws (degree_of U.threshold o) row (taken o) (OffAt s) (OffAt r) a.1 b.1)
+  rows_agree o g h s r a b = ap₂ Row (a.0 ∙ sym b.0) (opens_once G laws (degree_of U.threshold o) row (taken o) (Err (record { seat = s })) (Err (record { seat = r })) a.1 b.1)
 
   pub agree : (o : Opening) (a b : Result R Fault) → ComesTo G U.layouts U.threshold row o a → ComesTo G U.layouts U.threshold row o b → Agreed a b
   agree o (Ok v) (Ok w) a b = tt

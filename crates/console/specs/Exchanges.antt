@@ -6,7 +6,7 @@ use Rattle.curve.specs.declared.refusal.Refusal.TheVariants.{Seats, Memory}
 use Rattle.exchange.specs.Sheet.{Page, blank, place_all, place_one, looked, missing, turned}
 use Rattle.exchange.specs.Tables.{lines_page, board_page}
 use Rattle.console.specs.declared.answer.Answer.{Answer}
-use Rattle.console.specs.declared.answer.Answer.TheVariants.{Number, Done, Seen, Refused}
+use Rattle.console.specs.declared.answer.Answer.TheVariants.{Number, Done, Seen}
 use Rattle.console.specs.declared.any_exchange.Kind.{Kind}
 use Rattle.console.specs.declared.any_exchange.Kind.TheVariants.{Lines as LinesKind, Board as BoardKind, CurtainLines as CurtainLinesKind, CurtainBoard as CurtainBoardKind}
 use Rattle.console.specs.declared.any_exchange.AnyExchange.{AnyExchange}
@@ -47,19 +47,19 @@ Made points n page (Ok x) = (seats_wrong points n ≡ false) × (page x ≡ blan
 Made points n page (Err e) = (e ≡ Memory) ⊎ ((e ≡ Seats) × (seats_wrong points n ≡ true))
 
 -- what is answered of a placing
-abbrev pub placing : {R : Type 0} → Result (Unit {0}) Refusal → Answer R
-placing (Ok _) = Done
-placing (Err e) = Refused e
+abbrev pub placing : {R : Type 0} → Result (Unit {0}) Refusal → Result (Answer R) Refusal
+placing (Ok _) = Ok Done
+placing (Err e) = Err e
 
 -- what is answered of a look
-abbrev pub looking : {R : Type 0} → Result (Option R) Refusal → Answer R
-looking (Ok o) = Seen o
-looking (Err e) = Refused e
+abbrev pub looking : {R : Type 0} → Result (Option R) Refusal → Result (Answer R) Refusal
+looking (Ok o) = Ok (Seen o)
+looking (Err e) = Err e
 
 -- what a call answers, and the page after it
-abbrev pub called : {R : Type 0} → Bool → Bool → Page R → Call R → Answer R × Page R
+abbrev pub called : {R : Type 0} → Bool → Bool → Page R → Call R → Result (Answer R) Refusal × Page R
 called common veiled x (PlaceForAll s w) = (placing (place_all x s w).0, (place_all x s w).1)
 called common veiled x (PlaceForOne s r w) = (placing (place_one common x s r w).0, (place_one common x s r w).1)
 called common veiled x (Look r s) = (looking (looked veiled x r s), x)
-called common veiled x Missing = (Number (missing x), x)
-called common veiled x Turn = (Done, turned x)
+called common veiled x Missing = (Ok (Number (missing x)), x)
+called common veiled x Turn = (Ok Done, turned x)

@@ -1,5 +1,5 @@
 -- The names that a person reads and writes.
-use Rattle.std.specs.Prelude.{ℕ, List, codes}
+use Rattle.std.specs.Prelude.{◌≡◌, ℕ, List, codes, Result, ◌≢◌, MatchResult}
 use Rattle.console.specs.declared.arithmetic.Algebra.{Algebra}
 use Rattle.console.specs.declared.arithmetic.Algebra.TheVariants.{Add, Sub, Mul, Same, Coordinate, Embed, Point, Inverse}
 use Rattle.console.specs.declared.any_exchange.Kind.{Kind}
@@ -14,8 +14,11 @@ use Rattle.console.specs.declared.nodes.Nodes.{Nodes}
 use Rattle.console.specs.declared.nodes.Nodes.TheVariants.{Seats as SeatsCommand, Threshold as ThresholdCommand, Input, Pair, Node}
 use Rattle.console.specs.declared.session.Chosen.{Chosen}
 use Rattle.console.specs.declared.session.Chosen.TheVariants.{W4, B8}
-use Rattle.curve.specs.declared.refusal.Refusal.{Refusal}
-use Rattle.curve.specs.declared.refusal.Refusal.TheVariants.{Seats, Threshold, Length, Operand, Layout, Detail, Missing, Placed, Halted, Done, Seat, Common, Output, Unopened, Own, Memory}
+
+-- r is that of whose names the word is, and an error only where it is the name of nothing
+module _ {C E : Type 0} (name : C → List ℕ) where
+  abbrev pub Reads : List ℕ → Result C E → Type 0
+  Reads word r = MatchResult r (λ c. word ≡ name c) (λ _. (c : C) → word ≢ name c)
 
 abbrev pub ring_name : Chosen → List ℕ
 ring_name W4 = codes "w4"
@@ -61,21 +64,3 @@ nodes_name ThresholdCommand = codes "threshold"
 nodes_name Input = codes "input"
 nodes_name Pair = codes "pair"
 nodes_name Node = codes "node"
-
-abbrev pub refusal_name : Refusal → List ℕ
-refusal_name Seats = codes "seats"
-refusal_name Threshold = codes "threshold"
-refusal_name Length = codes "length"
-refusal_name Operand = codes "operand"
-refusal_name Layout = codes "layout"
-refusal_name Detail = codes "detail"
-refusal_name Missing = codes "missing"
-refusal_name Placed = codes "placed"
-refusal_name Halted = codes "halted"
-refusal_name Done = codes "done"
-refusal_name Seat = codes "seat"
-refusal_name Common = codes "common"
-refusal_name Output = codes "output"
-refusal_name Unopened = codes "unopened"
-refusal_name Own = codes "own"
-refusal_name Memory = codes "memory"

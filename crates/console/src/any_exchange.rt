@@ -1,21 +1,23 @@
 // An exchange of any kind, so that a session can keep one.
-ghost use Rattle.std.specs.Prelude.{◌≡◌, ◌≤◌, false, IfOk, Ok, Err, vec_len, MatchOption, ◌≢◌};
+ghost use Rattle.std.specs.Prelude.{◌≡◌, ◌≤◌, false, IfOk, OnErr, Ok, Err, vec_len};
 ghost use Rattle.curve.specs.Curve.{seats_wrong};
 ghost use Rattle.curve.specs.declared.refusal.Refusal.TheVariants.{Memory};
 ghost use Rattle.exchange.specs.Tables.{lines_page, board_page};
-ghost use Rattle.console.specs.Exchanges.{kind_of, page_of, common_of, veiled_of, Made, placing, called};
-ghost use Rattle.console.specs.Names.{kind_name};
+ghost use Rattle.console.specs.Exchanges.{kind_of, page_of, common_of, veiled_of, Made, called};
 
 use crate::answer::Answer;
 use crate::curves::MOST_SEATS;
 use crate::notation::Notation;
+use crate::trouble::Unknown;
 use curve::refusal::Refusal;
 use exchange::Exchange;
 use exchange::board::Board;
 use exchange::curtain::Curtain;
 use exchange::lines::Lines;
-use std::alloc::{AllocError, Global};
+use std::alloc::Global;
+use std::str::FromStr;
 
+// What a line asks for before any exchange is made, so it is no AnyExchange yet.
 #[derive(Clone, Copy)]
 pub(crate) enum Kind {
     Lines,
@@ -52,16 +54,20 @@ pub(crate) enum Call<R> {
     Turn,
 }
 
-impl Kind {
-    pub(crate) fn named(word: &str) -> Option<Kind>
-        ensures { MatchOption result ((k : Kind) → word.now ≢ kind_name k) (λ k. word.now ≡ kind_name k) }
-    {
+impl FromStr for Kind {
+    type Err = Unknown;
+
+    ghost use Rattle.console.specs.Names.{Reads, kind_name};
+
+    ghost from_str_gives = { Reads kind_name };
+
+    fn from_str(word: &str) -> Result<Kind, Unknown> {
         match word {
-            "lines" => Some(Kind::Lines),
-            "board" => Some(Kind::Board),
-            "curtain-lines" => Some(Kind::CurtainLines),
-            "curtain-board" => Some(Kind::CurtainBoard),
-            _ => None,
+            "lines" => Ok(Kind::Lines),
+            "board" => Ok(Kind::Board),
+            "curtain-lines" => Ok(Kind::CurtainLines),
+            "curtain-board" => Ok(Kind::CurtainBoard),
+            _ => Err(Unknown),
         }
     }
 }
@@ -79,10 +85,12 @@ impl<R: Notation> AnyExchange<R> {
         }
     }
 
-    pub(crate) fn answer(&mut self, call: Call<R>) -> Answer<R>
+    pub(crate) fn answer(&mut self, call: Call<R>) -> Result<Answer<R>, Refusal>
         ensures kind { kind_of self.new ≡ kind_of self.old }
         ensures page { (result, page_of self.new) ≡ called (common_of (kind_of self.old)) (veiled_of (kind_of self.old)) (page_of self.old) call }
+        ensures unchanged { OnErr result (page_of self.new ≡ page_of self.old) }
     {
+        // Four equal arms: no function may hand out the exchange of any kind as a dyn.
         match self {
             AnyExchange::Lines(exchange) => call.answer(exchange),
             AnyExchange::Board(exchange) => call.answer(exchange),
@@ -93,36 +101,32 @@ impl<R: Notation> AnyExchange<R> {
 }
 
 impl<R: Notation> Call<R> {
-    fn answer<X: Exchange<R>>(self, exchange: &mut X) -> Answer<R>
-        ensures { (result, X.Exchange.page exchange.new) ≡ called X.Exchange.common X.Exchange.veiled (X.Exchange.page exchange.old) self }
+    fn answer<X: Exchange<R>>(self, exchange: &mut X) -> Result<Answer<R>, Refusal>
+        ensures page { (result, X.Exchange.page exchange.new) ≡ called X.Exchange.common X.Exchange.veiled (X.Exchange.page exchange.old) self }
+        ensures unchanged { OnErr result (X.Exchange.page exchange.new ≡ X.Exchange.page exchange.old) }
     {
         match self {
-            Call::PlaceForAll { sender, word } => done(exchange.place_for_all(sender, word)),
+            Call::PlaceForAll { sender, word } => {
+                exchange.place_for_all(sender, word)?;
+                Ok(Answer::Done)
+            }
             Call::PlaceForOne {
                 sender,
                 receiver,
                 word,
-            } => { done(exchange.place_for_one(sender, receiver, word)) }
-            Call::Look { receiver, sender } => match exchange.look(receiver, sender) {
-                Ok(seen) => Answer::Seen(seen),
-                Err(refusal) => Answer::Refused(refusal),
-            },
-            Call::Missing => Answer::Number(exchange.missing() as u64),
+            } => {
+                exchange.place_for_one(sender, receiver, word)?;
+                Ok(Answer::Done)
+            }
+            Call::Look { receiver, sender } => {
+                Ok(Answer::Seen(exchange.look(receiver, sender)?))
+            }
+            Call::Missing => Ok(Answer::Number(exchange.missing() as u64)),
             Call::Turn => {
                 exchange.turn();
-                Answer::Done
+                Ok(Answer::Done)
             }
         }
-    }
-}
-
-// What is answered of a call that answers nothing.
-pub(crate) fn done<R>(outcome: Result<(), Refusal>) -> Answer<R>
-    ensures { result ≡ placing outcome }
-{
-    match outcome {
-        Ok(()) => Answer::Done,
-        Err(refusal) => Answer::Refused(refusal),
     }
 }
 
@@ -152,8 +156,5 @@ fn seated<R: Notation, X: Exchange<R> + Drop>(mut exchange: X, seats: usize) -> 
 fn table<R: Notation>(heap: Global, places: usize) -> Result<Vec<Option<R>>, Refusal>
     ensures { elim result [ Ok t ↦ vec_len t ≡ places | Err e ↦ e ≡ Memory ] }
 {
-    match vec![in heap; None; places] {
-        Ok(table) => Ok(table),
-        Err(AllocError) => Err(Refusal::Memory),
-    }
+    Ok(vec![in heap; None; places]?)
 }

@@ -1,12 +1,11 @@
 // The commands on single elements.
-ghost use Rattle.std.specs.Prelude.{◌≡◌, MatchOption, ◌≢◌};
-ghost use Rattle.console.specs.Names.{algebra_name};
 
 use crate::answer::Answer;
 use crate::notation::Notation;
-use crate::trouble::Trouble;
+use crate::trouble::{Trouble, Unknown};
 use crate::words::Words;
 use ring::Number;
+use std::str::FromStr;
 
 #[derive(Clone, Copy)]
 pub(crate) enum Algebra {
@@ -20,28 +19,41 @@ pub(crate) enum Algebra {
     Inverse,
 }
 
-impl Algebra {
-    pub(crate) fn named(word: &str) -> Option<Algebra>
-        ensures { MatchOption result ((c : Algebra) → word.now ≢ algebra_name c) (λ c. word.now ≡ algebra_name c) }
-    {
+impl FromStr for Algebra {
+    type Err = Unknown;
+
+    ghost use Rattle.console.specs.Names.{Reads, algebra_name};
+
+    ghost from_str_gives = { Reads algebra_name };
+
+    fn from_str(word: &str) -> Result<Algebra, Unknown> {
         match word {
-            "add" => Some(Algebra::Add),
-            "sub" => Some(Algebra::Sub),
-            "mul" => Some(Algebra::Mul),
-            "same" => Some(Algebra::Same),
-            "coordinate" => Some(Algebra::Coordinate),
-            "embed" => Some(Algebra::Embed),
-            "point" => Some(Algebra::Point),
-            "inverse" => Some(Algebra::Inverse),
-            _ => None,
+            "add" => Ok(Algebra::Add),
+            "sub" => Ok(Algebra::Sub),
+            "mul" => Ok(Algebra::Mul),
+            "same" => Ok(Algebra::Same),
+            "coordinate" => Ok(Algebra::Coordinate),
+            "embed" => Ok(Algebra::Embed),
+            "point" => Ok(Algebra::Point),
+            "inverse" => Ok(Algebra::Inverse),
+            _ => Err(Unknown),
         }
     }
+}
 
+impl Algebra {
     pub(crate) fn answer<'a, R: Notation>(
         self,
         words: Words<'a>,
     ) -> Result<Answer<R>, Trouble<'a>> {
         match self {
+            Algebra::Add => combined(words, |a: R, b| a.add(b)),
+            Algebra::Sub => combined(words, |a: R, b| a.sub(b)),
+            Algebra::Mul => combined(words, |a: R, b| a.mul(b)),
+            Algebra::Same => {
+                let (a, b) = operands::<R>(words)?;
+                Ok(Answer::Truth(a.same(b)))
+            }
             Algebra::Coordinate => coordinate(words),
             Algebra::Point => point(words),
             Algebra::Embed => {
@@ -52,19 +64,6 @@ impl Algebra {
                 let (i, j) = numbers(words)?;
                 Ok(Answer::Element(R::inverse(i, j)))
             }
-            _ => {
-                let (a, b) = operands(words)?;
-                Ok(self.of_two(a, b))
-            }
-        }
-    }
-
-    fn of_two<R: Notation>(self, a: R, b: R) -> Answer<R> {
-        match self {
-            Algebra::Add => Answer::Element(a.add(b)),
-            Algebra::Sub => Answer::Element(a.sub(b)),
-            Algebra::Mul => Answer::Element(a.mul(b)),
-            _ => Answer::Truth(a.same(b)),
         }
     }
 }
@@ -75,6 +74,17 @@ fn operands<'a, R: Notation>(mut words: Words<'a>) -> Result<(R, R), Trouble<'a>
     let b = words.element()?;
     words.end()?;
     Ok((a, b))
+}
+
+// What an operation makes of two elements.
+fn combined<'a, R: Notation, F: FnOnce(R, R) -> R>(
+    words: Words<'a>,
+    operation: F,
+) -> Result<Answer<R>, Trouble<'a>>
+    requires { (a b : R) → F.pre operation a b }
+{
+    let (a, b) = operands(words)?;
+    Ok(Answer::Element(operation(a, b)))
 }
 
 // Two numbers, and no word after them.

@@ -1,18 +1,17 @@
 // The commands on lists of gates.
-ghost use Rattle.std.specs.Prelude.{◌≡◌, MatchOption, OnErr, ◌≢◌};
-ghost use Rattle.console.specs.Names.{circuits_name};
+ghost use Rattle.std.specs.Prelude.{◌≡◌, OnErr};
 
 use crate::answer::Answer;
 use crate::desk::Desk;
 use crate::notation::Notation;
-use crate::trouble::{Misread, Trouble};
+use crate::trouble::{Misread, Trouble, Unknown};
 use crate::words::Words;
-use circuit::checked::Circuit;
+use circuit::checked::{Circuit, Limits};
 use curve::refusal::Refusal;
 use encoding::layout::Layout;
 use encoding::methods::Standard;
 use rules::plain::evaluate;
-use std::alloc::Global;
+use std::str::FromStr;
 
 #[derive(Clone, Copy)]
 pub(crate) enum Circuits {
@@ -23,23 +22,28 @@ pub(crate) enum Circuits {
     Plain,
 }
 
-impl Circuits {
-    pub(crate) fn named(word: &str) -> Option<Circuits>
-        ensures { MatchOption result ((c : Circuits) → word.now ≢ circuits_name c) (λ c. word.now ≡ circuits_name c) }
-    {
+impl FromStr for Circuits {
+    type Err = Unknown;
+
+    ghost use Rattle.console.specs.Names.{Reads, circuits_name};
+
+    ghost from_str_gives = { Reads circuits_name };
+
+    fn from_str(word: &str) -> Result<Circuits, Unknown> {
         match word {
-            "layout" => Some(Circuits::Layout),
-            "gates" => Some(Circuits::Gates),
-            "constants" => Some(Circuits::Constants),
-            "check" => Some(Circuits::Check),
-            "plain" => Some(Circuits::Plain),
-            _ => None,
+            "layout" => Ok(Circuits::Layout),
+            "gates" => Ok(Circuits::Gates),
+            "constants" => Ok(Circuits::Constants),
+            "check" => Ok(Circuits::Check),
+            "plain" => Ok(Circuits::Plain),
+            _ => Err(Unknown),
         }
     }
+}
 
+impl Circuits {
     pub(crate) fn answer<'a, R: Notation>(
         self,
-        heap: Global,
         words: Words<'a>,
         desk: &mut Desk<R>,
     ) -> Result<Answer<R>, Trouble<'a>>
@@ -48,15 +52,15 @@ impl Circuits {
         match self {
             Circuits::Layout => layout(words),
             Circuits::Gates => {
-                desk.codes = words.codes(heap)?;
+                desk.codes = words.codes(desk.heap)?;
                 Ok(Answer::Gates(desk.codes.len()))
             }
             Circuits::Constants => {
-                desk.constants = words.numbers(heap)?;
+                desk.constants = words.numbers(desk.heap)?;
                 Ok(Answer::Constants(desk.constants.len()))
             }
-            Circuits::Check => check(heap, words, desk),
-            Circuits::Plain => plain(heap, words, desk),
+            Circuits::Check => check(words, desk),
+            Circuits::Plain => plain(words, desk),
         }
     }
 }
@@ -64,6 +68,7 @@ impl Circuits {
 fn layout<'a, R: Notation>(mut words: Words<'a>) -> Result<Answer<R>, Trouble<'a>> {
     let word = words.word()?;
     words.end()?;
+    // By the word and not by its number: `00` is none.
     match word {
         "0" => Ok(Answer::Positions(Layout::Plain)),
         "1" => Ok(Answer::Positions(Layout::Lanes)),
@@ -74,49 +79,26 @@ fn layout<'a, R: Notation>(mut words: Words<'a>) -> Result<Answer<R>, Trouble<'a
 }
 
 // The present list, checked for so many inputs.
-fn circuit_for<R: Notation>(
-    heap: Global,
-    desk: &Desk<R>,
-    inputs: usize,
-) -> Result<Circuit, Refusal> {
-    let coordinates = R::coordinate_count();
-    let constants = desk.constants.len();
-    Circuit::check::<Standard>(heap, coordinates, inputs, constants, desk.codes.as_slice())
+fn circuit_for<R: Notation>(desk: &Desk<R>, inputs: usize) -> Result<Circuit, Refusal> {
+    let limits = Limits {
+        degree: R::DEGREE,
+        inputs,
+        constants: desk.constants.len(),
+    };
+    Circuit::check::<Standard>(desk.heap, limits, desk.codes.as_slice())
 }
 
-fn check<'a, R: Notation>(
-    heap: Global,
-    mut words: Words<'a>,
-    desk: &Desk<R>,
-) -> Result<Answer<R>, Trouble<'a>> {
+fn check<'a, R: Notation>(mut words: Words<'a>, desk: &Desk<R>) -> Result<Answer<R>, Trouble<'a>> {
     let inputs = words.number()?;
     words.end()?;
-    match circuit_for(heap, desk, inputs) {
-        Ok(circuit) => Ok(Answer::Checked(circuit)),
-        Err(refusal) => Ok(Answer::Refused(refusal)),
-    }
+    Ok(Answer::Checked(circuit_for(desk, inputs)?))
 }
 
-fn plain<'a, R: Notation>(
-    heap: Global,
-    words: Words<'a>,
-    desk: &Desk<R>,
-) -> Result<Answer<R>, Trouble<'a>> {
-    let inputs: Vec<R> = words.elements(heap)?;
-    match evaluated(heap, desk, inputs.as_slice()) {
-        Ok((circuit, values)) => Ok(Answer::Plain(circuit, values)),
-        Err(refusal) => Ok(Answer::Refused(refusal)),
-    }
-}
-
-// The present list for these inputs, and the value of each of its gates.
-fn evaluated<R: Notation>(
-    heap: Global,
-    desk: &Desk<R>,
-    inputs: &[R],
-) -> Result<(Circuit, Vec<R>), Refusal> {
-    let circuit = circuit_for(heap, desk, inputs.len())?;
+// The value of each gate of the present list for these inputs.
+fn plain<'a, R: Notation>(words: Words<'a>, desk: &Desk<R>) -> Result<Answer<R>, Trouble<'a>> {
+    let inputs: Vec<R> = words.elements(desk.heap)?;
+    let circuit = circuit_for(desk, inputs.len())?;
     let constants = desk.constants.as_slice();
-    let values = evaluate::<R, Standard>(heap, &circuit, constants, inputs)?;
-    Ok((circuit, values))
+    let values = evaluate::<R, Standard>(desk.heap, &circuit, constants, inputs.as_slice())?;
+    Ok(Answer::Plain(circuit, values))
 }

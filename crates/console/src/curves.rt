@@ -1,12 +1,11 @@
 // The commands on shares.
-ghost use Rattle.std.specs.Prelude.{◌≡◌, MatchOption, ◌≢◌};
-ghost use Rattle.console.specs.Names.{curves_name};
 
 use crate::answer::Answer;
 use crate::notation::Notation;
-use crate::trouble::Trouble;
+use crate::trouble::{Trouble, Unknown};
 use crate::words::Words;
 use std::alloc::Global;
+use std::str::FromStr;
 
 // More seats than these are refused before the length of the table matters.
 pub(crate) const MOST_SEATS: usize = 31;
@@ -17,17 +16,23 @@ pub(crate) enum Curves {
     Open,
 }
 
-impl Curves {
-    pub(crate) fn named(word: &str) -> Option<Curves>
-        ensures { MatchOption result ((c : Curves) → word.now ≢ curves_name c) (λ c. word.now ≡ curves_name c) }
-    {
+impl FromStr for Curves {
+    type Err = Unknown;
+
+    ghost use Rattle.console.specs.Names.{Reads, curves_name};
+
+    ghost from_str_gives = { Reads curves_name };
+
+    fn from_str(word: &str) -> Result<Curves, Unknown> {
         match word {
-            "deal" => Some(Curves::Deal),
-            "open" => Some(Curves::Open),
-            _ => None,
+            "deal" => Ok(Curves::Deal),
+            "open" => Ok(Curves::Open),
+            _ => Err(Unknown),
         }
     }
+}
 
+impl Curves {
     pub(crate) fn answer<'a, R: Notation>(
         self,
         heap: Global,
@@ -46,18 +51,18 @@ fn deal<'a, R: Notation>(heap: Global, mut words: Words<'a>) -> Result<Answer<R>
     let secret: R = words.element()?;
     let others: Vec<R> = words.elements(heap)?;
     let mut shares = vec![in heap; R::zero(); seats.min(MOST_SEATS)]?;
-    let table = shares.as_mut_slice();
-    match curve::deal(seats, degree, secret, others.as_slice(), table) {
-        Ok(()) => Ok(Answer::Shares(shares)),
-        Err(refusal) => Ok(Answer::Refused(refusal)),
-    }
+    curve::deal(
+        seats,
+        degree,
+        secret,
+        others.as_slice(),
+        shares.as_mut_slice(),
+    )?;
+    Ok(Answer::Shares(shares))
 }
 
 fn open<'a, R: Notation>(heap: Global, mut words: Words<'a>) -> Result<Answer<R>, Trouble<'a>> {
     let degree = words.number()?;
     let row: Vec<R> = words.elements(heap)?;
-    match curve::open_row(degree, row.as_slice()) {
-        Ok(opening) => Ok(Answer::Opened(opening)),
-        Err(refusal) => Ok(Answer::Refused(refusal)),
-    }
+    Ok(Answer::Opened(curve::open_row(degree, row.as_slice())?))
 }

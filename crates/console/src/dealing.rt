@@ -3,7 +3,6 @@
 ghost use Rattle.std.specs.Prelude.{◌≡◌, ◌∷◌, ◌++◌, [], nat_lt, slice_set, if◌then◌else◌, vec_len, IfOk, OnErr};
 
 use crate::notation::Notation;
-use crate::trouble::Trouble;
 use curve::refusal::Refusal;
 use std::alloc::Global;
 
@@ -37,37 +36,19 @@ impl<R: Notation> Dealing<R> {
     }
 }
 
-// Whether there is an entry of this number, or it is the next one.
-pub(crate) fn has_place<T>(entries: &Vec<T>, number: usize) -> bool {
-    number <= entries.len()
-}
-
 // Puts an entry in the place of an earlier one, or after the last. Want of memory is a refusal, which puts nothing.
 pub(crate) fn put<T: Drop>(entries: &mut Vec<T>, number: usize, entry: T) -> Result<(), Refusal>
     ensures put { IfOk result (λ _. entries.new.items ≡ (if nat_lt number (vec_len entries.old) then slice_set entries.old.items number entry else entries.old.items ++ entry ∷ [])) }
     ensures refused { OnErr result (entries.new.items ≡ entries.old.items) }
 {
-    if number < entries.len() {
-        entries[number] = entry;
-        return Ok(());
-    }
-    match entries.push(entry) {
-        Ok(()) => Ok(()),
-        Err(_) => Err(Refusal::Memory),
-    }
-}
-
-// A seat's part of a row, after those that were gathered before.
-pub(crate) fn gather<'a, R: Notation>(
-    parts: &mut Vec<R>,
-    row: &Vec<R>,
-    seat: usize,
-) -> Result<(), Trouble<'a>> {
-    let Some(part) = row.get(seat.saturating_sub(1)) else {
-        return Ok(());
-    };
-    if parts.push(*part).is_err() {
-        return Err(Trouble::Memory);
+    match entries.get_mut(number) {
+        Some(place) => *place = entry,
+        None => entries.push(entry)?,
     }
     Ok(())
+}
+
+// A seat's part of a row.
+pub(crate) fn part_of<R: Notation>(row: &Vec<R>, seat: usize) -> Option<R> {
+    row.get(seat.saturating_sub(1)).copied()
 }

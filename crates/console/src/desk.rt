@@ -1,6 +1,5 @@
 // What a session keeps between commands, in the ring that is chosen.
-ghost use Rattle.std.specs.Prelude.{◌≡◌, OnErr};
-ghost use Rattle.console.specs.Sessions.{IsBare};
+ghost use Rattle.console.specs.Sessions.{IsBare, AlikeDesks, Leaves};
 
 use crate::answer::Answer;
 use crate::any_exchange::AnyExchange;
@@ -17,6 +16,7 @@ use std::alloc::Global;
 
 #[derive(Drop)]
 pub(crate) struct Desk<R> {
+    pub(crate) heap: Global,
     pub(crate) codes: Vec<u32>,
     pub(crate) constants: Vec<u64>,
     // It is the console's until a bench takes it.
@@ -30,6 +30,7 @@ impl<R: Notation> Desk<R> {
         ensures { IsBare result }
     {
         Desk {
+            heap,
             codes: Vec::new(heap),
             constants: Vec::new(heap),
             exchange: None,
@@ -38,29 +39,29 @@ impl<R: Notation> Desk<R> {
         }
     }
 
-    // What a command answers. One that is not understood changes nothing.
+    // What a command answers. One that is not understood changes nothing, and a refused one nothing that is kept.
     pub(crate) fn answer<'a>(
         &mut self,
-        heap: Global,
         command: &'a str,
         words: Words<'a>,
     ) -> Result<Answer<R>, Trouble<'a>>
-        ensures { OnErr result (self.new ≡ self.old) }
+        ensures { Leaves AlikeDesks result self.new self.old }
     {
-        if let Some(algebra) = Algebra::named(command) {
+        // One enum over the five groups would repeat these five lines and add a match.
+        if let Ok(algebra) = command.parse::<Algebra>() {
             return algebra.answer(words);
         }
-        if let Some(curves) = Curves::named(command) {
-            return curves.answer(heap, words);
+        if let Ok(curves) = command.parse::<Curves>() {
+            return curves.answer(self.heap, words);
         }
-        if let Some(circuits) = Circuits::named(command) {
-            return circuits.answer(heap, words, self);
+        if let Ok(circuits) = command.parse::<Circuits>() {
+            return circuits.answer(words, self);
         }
-        if let Some(exchanges) = Exchanges::named(command) {
-            return exchanges.answer(heap, words, self);
+        if let Ok(exchanges) = command.parse::<Exchanges>() {
+            return exchanges.answer(words, self);
         }
-        if let Some(nodes) = Nodes::named(command) {
-            return nodes.answer(heap, words, self);
+        if let Ok(nodes) = command.parse::<Nodes>() {
+            return nodes.answer(words, self);
         }
         Err(Trouble::Line(Misread::Command, command))
     }

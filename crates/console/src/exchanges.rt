@@ -1,15 +1,14 @@
 // The commands on exchanges.
-ghost use Rattle.std.specs.Prelude.{◌≡◌, Ok, MatchOption, OnErr, ◌≢◌};
-ghost use Rattle.console.specs.Names.{exchanges_name};
+ghost use Rattle.std.specs.Prelude.{◌≡◌, OnErr};
+ghost use Rattle.console.specs.Sessions.{AlikeDesks, Leaves};
 
 use crate::answer::Answer;
 use crate::any_exchange::{AnyExchange, Call, Kind};
 use crate::desk::Desk;
 use crate::notation::Notation;
-use crate::trouble::{Misread, Trouble};
+use crate::trouble::{Misread, Trouble, Unknown};
 use crate::words::Words;
-use curve::refusal::Refusal;
-use std::alloc::Global;
+use std::str::FromStr;
 
 #[derive(Clone, Copy)]
 pub(crate) enum Exchanges {
@@ -20,67 +19,62 @@ pub(crate) enum Exchanges {
     Turn,
 }
 
-impl Exchanges {
-    pub(crate) fn named(word: &str) -> Option<Exchanges>
-        ensures { MatchOption result ((c : Exchanges) → word.now ≢ exchanges_name c) (λ c. word.now ≡ exchanges_name c) }
-    {
+impl FromStr for Exchanges {
+    type Err = Unknown;
+
+    ghost use Rattle.console.specs.Names.{Reads, exchanges_name};
+
+    ghost from_str_gives = { Reads exchanges_name };
+
+    fn from_str(word: &str) -> Result<Exchanges, Unknown> {
         match word {
-            "exchange" => Some(Exchanges::Exchange),
-            "place" => Some(Exchanges::Place),
-            "look" => Some(Exchanges::Look),
-            "missing" => Some(Exchanges::Missing),
-            "turn" => Some(Exchanges::Turn),
-            _ => None,
+            "exchange" => Ok(Exchanges::Exchange),
+            "place" => Ok(Exchanges::Place),
+            "look" => Ok(Exchanges::Look),
+            "missing" => Ok(Exchanges::Missing),
+            "turn" => Ok(Exchanges::Turn),
+            _ => Err(Unknown),
         }
     }
+}
 
+impl Exchanges {
     pub(crate) fn answer<'a, R: Notation>(
         self,
-        heap: Global,
         words: Words<'a>,
         desk: &mut Desk<R>,
     ) -> Result<Answer<R>, Trouble<'a>>
-        ensures unchanged { OnErr result (desk.new ≡ desk.old) }
+        ensures left { Leaves AlikeDesks result desk.new desk.old }
         ensures kept { (desk.new.codes ≡ desk.old.codes) × (desk.new.constants ≡ desk.old.constants) }
     {
         let line = words.line();
         let call = match self {
-            Exchanges::Exchange => return make(heap, words, desk),
+            Exchanges::Exchange => return make(words, desk),
             Exchanges::Place => place(words)?,
             Exchanges::Look => look(words)?,
             Exchanges::Missing => alone(words, Call::Missing)?,
             Exchanges::Turn => alone(words, Call::Turn)?,
         };
         match &mut desk.exchange {
-            Some(exchange) => Ok(exchange.answer(call)),
+            Some(exchange) => Ok(exchange.answer(call)?),
             None => Err(Trouble::Line(Misread::Exchange, line)),
         }
     }
 }
 
 // Keeps a new exchange. A refusal leaves the one that is there.
-fn make<'a, R: Notation>(
-    heap: Global,
-    mut words: Words<'a>,
-    desk: &mut Desk<R>,
-) -> Result<Answer<R>, Trouble<'a>>
+fn make<'a, R: Notation>(mut words: Words<'a>, desk: &mut Desk<R>) -> Result<Answer<R>, Trouble<'a>>
     ensures unchanged { OnErr result (desk.new ≡ desk.old) }
-    ensures refusal { (e : Refusal) → result ≡ Ok (Answer.Refused e) → desk.new ≡ desk.old }
     ensures kept { (desk.new.codes ≡ desk.old.codes) × (desk.new.constants ≡ desk.old.constants) }
 {
     let word = words.word()?;
     let seats = words.number()?;
     words.end()?;
-    let Some(kind) = Kind::named(word) else {
+    let Ok(kind) = word.parse::<Kind>() else {
         return Err(Trouble::Line(Misread::Kind, word));
     };
-    match AnyExchange::make(heap, kind, seats) {
-        Ok(exchange) => {
-            desk.exchange = Some(exchange);
-            Ok(Answer::Done)
-        }
-        Err(refusal) => Ok(Answer::Refused(refusal)),
-    }
+    desk.exchange = Some(AnyExchange::make(desk.heap, kind, seats)?);
+    Ok(Answer::Done)
 }
 
 // The sender, the receiver or `all`, and the element.
@@ -88,17 +82,15 @@ fn place<'a, R: Notation>(mut words: Words<'a>) -> Result<Call<R>, Trouble<'a>> 
     let sender = words.number()?;
     let receiver = words.receiver()?;
     let word = words.element()?;
-    match receiver {
-        Some(receiver) => alone(
-            words,
-            Call::PlaceForOne {
-                sender,
-                receiver,
-                word,
-            },
-        ),
-        None => alone(words, Call::PlaceForAll { sender, word }),
-    }
+    let call = match receiver {
+        Some(receiver) => Call::PlaceForOne {
+            sender,
+            receiver,
+            word,
+        },
+        None => Call::PlaceForAll { sender, word },
+    };
+    alone(words, call)
 }
 
 // The receiver and the sender.

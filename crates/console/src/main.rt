@@ -2,6 +2,7 @@
 #![tactic(auto)]
 
 ghost use Rattle.std.specs.Prelude.{◌≡◌, true, false, ◌≢◌};
+ghost use Rattle.curve.specs.declared.refusal.Refusal.{Refusal};
 
 mod answer;
 mod any_exchange;
@@ -70,10 +71,8 @@ impl Console {
     }
 
     fn take_file(&mut self, rt: &HostRuntime, name: String) -> Result<(), Stopped> {
-        match File::open(rt, name.as_str()) {
-            Ok(file) => Ok(self.take_lines(rt, BufReader::new(rt.alloc(), file)?)?),
-            Err(e) => Err(Stopped::File(name, e)),
-        }
+        let file = File::open(rt, name.as_str()).map_err(|e| Stopped::File(name, e))?;
+        Ok(self.take_lines(rt, BufReader::new(rt.alloc(), file)?)?)
     }
 
     fn take_lines<I: BufRead + Drop>(&mut self, rt: &HostRuntime, mut input: I) -> io::Result<()> {
@@ -105,15 +104,18 @@ impl Console {
         }
     }
 
-    // Want of memory is a refusal; anything else is an error of the line.
+    // A refusal is told as an answer is, want of memory as well, and is no error of the run. A line that is misread is one.
     fn complain(&mut self, rt: &HostRuntime, number: u64, trouble: Trouble<'_>) -> io::Result<()>
         ensures memory { trouble.entry ≡ Trouble.Memory → self.new ≡ self.old }
-        ensures error { (trouble.entry ≢ Trouble.Memory) → self.new.understood ≡ false }
+        ensures refused { (e : Refusal) → trouble.entry ≡ Trouble.Refused e → self.new ≡ self.old }
+        ensures error { (trouble.entry ≢ Trouble.Memory) → ((e : Refusal) → trouble.entry ≢ Trouble.Refused e) → self.new.understood ≡ false }
     {
-        if let Trouble::Memory = trouble {
-            return println!(rt; "refused memory");
+        match trouble {
+            Trouble::Memory | Trouble::Refused(_) => println!(rt; "{trouble}"),
+            Trouble::Line(..) => {
+                self.understood = false;
+                println!(rt; "error line {number}: {trouble}")
+            }
         }
-        self.understood = false;
-        println!(rt; "error line {number}: {trouble}")
     }
 }

@@ -7,6 +7,8 @@ use crate::trouble::{Misread, Trouble};
 use ring::{Number, Ring};
 use std::fmt;
 
+// With a name, read and show of its own, and no FromStr or Display: the rings' types are the language's own, so no impl of those
+// can stand here.
 pub(crate) trait Notation: Ring + Clone {
     ghost called: { List ℕ };
 
@@ -20,6 +22,16 @@ pub(crate) trait Notation: Ring + Clone {
 
     fn show<W: fmt::Write>(self, f: &mut fmt::Formatter<W>) -> fmt::Result {
         show_coordinates(self, f)
+    }
+}
+
+// An element as its ring writes it.
+#[derive(Clone, Copy)]
+pub(crate) struct Written<R>(pub(crate) R);
+
+impl<R: Notation> fmt::Display for Written<R> {
+    fn fmt<W: fmt::Write>(&self, f: &mut fmt::Formatter<W>) -> fmt::Result {
+        self.0.show(f)
     }
 }
 
@@ -39,10 +51,7 @@ impl Notation for u8 {
     }
 
     fn read(word: &str) -> Result<u8, Trouble<'_>> {
-        match read_byte(word) {
-            Some(byte) => Ok(byte),
-            None => Err(Trouble::Line(Misread::Byte, word)),
-        }
+        read_byte(word).ok_or(Trouble::Line(Misread::Byte, word))
     }
 
     fn show<W: fmt::Write>(self, f: &mut fmt::Formatter<W>) -> fmt::Result {
@@ -57,21 +66,19 @@ pub(crate) fn read_number(word: &str) -> Result<u64, Trouble<'_>>
     if word.starts_with('+') {
         return Err(Trouble::Line(Misread::Number, word));
     }
-    match word.parse::<u64>() {
-        Ok(number) => Ok(number),
-        Err(_) => Err(Trouble::Line(Misread::Number, word)),
-    }
+    word.parse::<u64>()
+        .map_err(|_| Trouble::Line(Misread::Number, word))
 }
 
 // Coordinates that are left out at the end are zero.
 fn read_coordinates<R: Ring>(word: &str) -> Result<R, Trouble<'_>> {
     let mut sum = R::zero();
     for (place, part) in word.split(',').enumerate() {
-        if place >= R::coordinate_count() {
+        if place >= R::DEGREE {
             return Err(Trouble::Line(Misread::Length, word));
         }
         match read_number(part) {
-            Ok(value) if u128::from(value) < R::coordinate_modulus() => {
+            Ok(value) if u128::from(value) < R::MODULUS => {
                 sum = sum.add(R::embed(value, place));
             }
             _ => return Err(Trouble::Line(Misread::Coordinate, word)),
@@ -81,7 +88,7 @@ fn read_coordinates<R: Ring>(word: &str) -> Result<R, Trouble<'_>> {
 }
 
 fn show_coordinates<R: Ring, W: fmt::Write>(element: R, f: &mut fmt::Formatter<W>) -> fmt::Result {
-    for place in 0..R::coordinate_count() {
+    for place in 0..R::DEGREE {
         if place > 0 {
             f.write_str(",")?;
         }
@@ -101,6 +108,7 @@ fn read_byte(word: &str) -> Option<u8>
     }
 }
 
+// In lower case alone: `to_digit` and `from_str_radix` would take the other too.
 fn hexadecimal(digit: u8) -> Option<u8>
     ensures { MatchOption result ((v : ℕ) → v < 16 → digit_code v ≢ digit) (λ v. (v < 16) × (digit_code v ≡ digit)) }
 {
@@ -111,15 +119,10 @@ fn hexadecimal(digit: u8) -> Option<u8>
     }
 }
 
-// A gate's code is written with all its eight hexadecimal digits, in either case.
-pub(crate) fn read_code(word: &str) -> Option<u32> {
-    let digits = word.as_bytes();
-    if digits.len() != 8 {
-        return None;
+// A gate's code is written with all its eight hexadecimal digits, in either case: `from_str_radix` would take a plus too.
+pub(crate) fn read_code(word: &str) -> Result<u32, Trouble<'_>> {
+    if word.len() != 8 || word.starts_with('+') {
+        return Err(Trouble::Line(Misread::Code, word));
     }
-    let mut code = 0;
-    for digit in digits {
-        code = code << 4 | u32::from(hexadecimal(digit.to_ascii_lowercase())?);
-    }
-    Some(code)
+    u32::from_str_radix(word, 16).map_err(|_| Trouble::Line(Misread::Code, word))
 }

@@ -1,16 +1,18 @@
 // One run of the console: which ring is chosen, and which commands there are.
-ghost use Rattle.std.specs.Prelude.{◌≡◌, MatchOption, OnErr, ◌≢◌};
-ghost use Rattle.console.specs.Names.{ring_name};
-ghost use Rattle.console.specs.Sessions.{chosen_of, IsBlank};
+ghost use Rattle.std.specs.Prelude.{◌≡◌};
+ghost use Rattle.console.specs.Sessions.{chosen_of, IsBlank, AlikeSessions, Leaves};
 
 use crate::answer::Answer;
 use crate::desk::Desk;
 use crate::notation::Notation;
-use crate::trouble::{Misread, Trouble};
+use crate::trouble::{Misread, Trouble, Unknown};
 use crate::words::Words;
 use std::alloc::Global;
 use std::fmt;
+use std::str::FromStr;
 
+// Each ring once more in Session and in Reply: one enum with a parameter for each ring would leave these three their names
+// and blocks, and say less.
 #[derive(Clone, Copy)]
 pub(crate) enum Chosen {
     W4,
@@ -31,26 +33,29 @@ pub(crate) enum Reply {
     B8(Answer<u8>),
 }
 
-impl Chosen {
-    fn named(word: &str) -> Option<Chosen>
-        ensures { MatchOption result ((c : Chosen) → word.now ≢ ring_name c) (λ c. word.now ≡ ring_name c) }
-    {
+impl FromStr for Chosen {
+    type Err = Unknown;
+
+    ghost use Rattle.console.specs.Names.{Reads, ring_name};
+
+    ghost from_str_gives = { Reads ring_name };
+
+    fn from_str(word: &str) -> Result<Chosen, Unknown> {
         if word == <[u64; 4] as Notation>::name() {
-            Some(Chosen::W4)
+            Ok(Chosen::W4)
         } else if word == <u8 as Notation>::name() {
-            Some(Chosen::B8)
+            Ok(Chosen::B8)
         } else {
-            None
+            Err(Unknown)
         }
     }
+}
 
+impl Chosen {
     fn read<'a>(mut words: Words<'a>) -> Result<Chosen, Trouble<'a>> {
         let word = words.word()?;
         words.end()?;
-        match Chosen::named(word) {
-            Some(ring) => Ok(ring),
-            None => Err(Trouble::Line(Misread::Ring, word)),
-        }
+        word.parse().map_err(|_| Trouble::Line(Misread::Ring, word))
     }
 
     fn describe(self) -> Reply {
@@ -80,13 +85,13 @@ impl Session {
         Chosen::W4.begin(heap)
     }
 
-    // What is answered to a command. One that is not understood changes nothing.
+    // What is answered to a command. One that is not understood changes nothing, and a refused one nothing that is kept.
     pub(crate) fn answer<'a>(
         &mut self,
         heap: Global,
         mut words: Words<'a>,
     ) -> Result<Reply, Trouble<'a>>
-        ensures { OnErr result (self.new ≡ self.old) }
+        ensures { Leaves AlikeSessions result self.new self.old }
     {
         let command = words.word()?;
         if command == "ring" {
@@ -95,8 +100,8 @@ impl Session {
             return Ok(ring.describe());
         }
         match self {
-            Session::W4(desk) => Ok(Reply::W4(desk.answer(heap, command, words)?)),
-            Session::B8(desk) => Ok(Reply::B8(desk.answer(heap, command, words)?)),
+            Session::W4(desk) => Ok(Reply::W4(desk.answer(command, words)?)),
+            Session::B8(desk) => Ok(Reply::B8(desk.answer(command, words)?)),
         }
     }
 }

@@ -1,5 +1,9 @@
-// Why a line got no answer: it is misread, or there was no memory for it.
-use std::alloc::AllocError;
+// Why a line gets no answer of its own: it is misread, there is no memory for it, or what it asks for is refused. The last two are
+// told as an answer is, and are no errors of the run.
+ghost use Rattle.std.specs.Prelude.{◌≡◌};
+
+use curve::refusal::Refusal;
+use std::alloc::{AllocError, AllocFailed};
 use std::fmt;
 
 // What is wrong with a line.
@@ -24,16 +28,53 @@ pub(crate) enum Misread {
     Exchange,
 }
 
-// A line that is misread, with the words that are wrong; or want of memory.
+// A line that is misread, with the words that are wrong; want of memory for what the line says; or the refusal of the call that
+// it asks for.
 #[derive(Clone, Copy)]
 pub(crate) enum Trouble<'a> {
     Line(Misread, &'a str),
     Memory,
+    Refused(Refusal),
 }
 
-impl Misread {
-    fn text(self) -> &'static str {
-        match self {
+// A word that names nothing of its kind. Each kind of command reads its own words by a match: one function over a table of names
+// would list the variants twice.
+#[derive(Clone, Copy, Debug, PartialEq, Eq)]
+pub(crate) struct Unknown;
+
+impl From<Refusal> for Trouble<'_> {
+    ghost use Rattle.console.specs.declared.trouble.Trouble.TheVariants.{Refused};
+
+    ghost from_gives = { λ refusal t. t ≡ Refused refusal };
+
+    fn from(refusal: Refusal) -> Self {
+        Trouble::Refused(refusal)
+    }
+}
+
+impl From<AllocError> for Trouble<'_> {
+    ghost use Rattle.console.specs.declared.trouble.Trouble.TheVariants.{Memory};
+
+    ghost from_gives = { λ _ t. t ≡ Memory };
+
+    fn from(_e: AllocError) -> Self {
+        Self::Memory
+    }
+}
+
+impl<T: Drop> From<AllocFailed<T>> for Trouble<'_> {
+    ghost use Rattle.console.specs.declared.trouble.Trouble.TheVariants.{Memory};
+
+    ghost from_gives = { λ _ t. t ≡ Memory };
+
+    fn from(_e: AllocFailed<T>) -> Self {
+        Trouble::from(AllocError)
+    }
+}
+
+impl fmt::Display for Misread {
+    fn fmt<W: fmt::Write>(&self, f: &mut fmt::Formatter<W>) -> fmt::Result {
+        f.write_str(match self {
             Misread::Text => "not UTF-8",
             Misread::Command => "unknown command",
             Misread::Ring => "unknown ring",
@@ -51,24 +92,19 @@ impl Misread {
             Misread::Node => "no node was made yet",
             Misread::Kind => "no kind of exchange",
             Misread::Exchange => "no exchange was made yet",
-        }
-    }
-}
-
-impl From<AllocError> for Trouble<'_> {
-    fn from(_e: AllocError) -> Self {
-        Trouble::Memory
+        })
     }
 }
 
 impl fmt::Display for Trouble<'_> {
     fn fmt<W: fmt::Write>(&self, f: &mut fmt::Formatter<W>) -> fmt::Result {
         match *self {
-            Trouble::Line(misread, words) => {
-                let text = misread.text();
-                write!(f, "{text}: {words}")
-            }
-            Trouble::Memory => f.write_str("out of memory"),
+            Trouble::Line(misread, words) => write!(f, "{misread}: {words}"),
+            Trouble::Memory => write!(f, "refused {}", Refusal::Memory),
+            Trouble::Refused(refusal) => match refusal.number() {
+                Some(number) => write!(f, "refused {number} {refusal}"),
+                None => write!(f, "refused {refusal}"),
+            },
         }
     }
 }

@@ -12,10 +12,7 @@ pub(crate) struct Words<'a> {
 
 // The part of a line before its comment.
 pub(crate) fn command_of(line: &str) -> &str {
-    match line.split_once('#') {
-        Some((command, _)) => command.trim(),
-        None => line.trim(),
-    }
+    line.split_once('#').unwrap_or((line, "")).0.trim()
 }
 
 impl<'a> Words<'a> {
@@ -32,10 +29,9 @@ impl<'a> Words<'a> {
     }
 
     pub(crate) fn word(&mut self) -> Result<&'a str, Trouble<'a>> {
-        match self.rest.next() {
-            Some(word) => Ok(word),
-            None => Err(Trouble::Line(Misread::Few, self.line)),
-        }
+        self.rest
+            .next()
+            .ok_or(Trouble::Line(Misread::Few, self.line))
     }
 
     pub(crate) fn number(&mut self) -> Result<usize, Trouble<'a>> {
@@ -57,10 +53,7 @@ impl<'a> Words<'a> {
     // Passes over the next word if it is this one.
     pub(crate) fn skip(&mut self, word: &str) -> Result<bool, Trouble<'a>> {
         let mut ahead = self.rest.clone()?;
-        let Some(next) = ahead.next() else {
-            return Ok(false);
-        };
-        let found = next == word;
+        let found = ahead.next() == Some(word);
         if found {
             self.rest = ahead;
         }
@@ -74,55 +67,33 @@ impl<'a> Words<'a> {
         end: &str,
     ) -> Result<Vec<R>, Trouble<'a>> {
         let mut all = Vec::new(heap);
-        for _ in 0..self.line.len() {
-            let word = self.word()?;
+        for word in self.rest.by_ref() {
             if word == end {
-                break;
+                return Ok(all);
             }
-            let element = R::read(word)?;
-            if all.push(element).is_err() {
-                return Err(Trouble::Memory);
-            }
+            all.push(R::read(word)?)?;
         }
-        Ok(all)
+        Err(Trouble::Line(Misread::Few, self.line))
     }
 
     // All words that are left, each an element.
     pub(crate) fn elements<R: Notation>(self, heap: Global) -> Result<Vec<R>, Trouble<'a>> {
+        // No chain: the proof of `map` covers no closure whose result is named by R alone.
         let mut all = Vec::new(heap);
         for word in self.rest {
-            let element = R::read(word)?;
-            if all.push(element).is_err() {
-                return Err(Trouble::Memory);
-            }
+            all.push(R::read(word)?)?;
         }
         Ok(all)
     }
 
     // All words that are left, each a decimal number.
     pub(crate) fn numbers(self, heap: Global) -> Result<Vec<u64>, Trouble<'a>> {
-        let mut all = Vec::new(heap);
-        for word in self.rest {
-            let number = read_number(word)?;
-            if all.push(number).is_err() {
-                return Err(Trouble::Memory);
-            }
-        }
-        Ok(all)
+        self.rest.map(read_number).try_collect(heap)
     }
 
     // All words that are left, each a gate's code.
     pub(crate) fn codes(self, heap: Global) -> Result<Vec<u32>, Trouble<'a>> {
-        let mut all = Vec::new(heap);
-        for word in self.rest {
-            let Some(code) = read_code(word) else {
-                return Err(Trouble::Line(Misread::Code, word));
-            };
-            if all.push(code).is_err() {
-                return Err(Trouble::Memory);
-            }
-        }
-        Ok(all)
+        self.rest.map(read_code).try_collect(heap)
     }
 
     pub(crate) fn end(mut self) -> Result<(), Trouble<'a>> {

@@ -1,6 +1,7 @@
 -- What the loops keep, and their steps.
-use Rattle.std.proofs.Common.{◌≡◌, ℕ, zero, suc, ◌+◌, ◌-◌, ◌<◌, ◌≤◌, eqb, List, [], ◌∷◌, map, length, get_or, drop, set, sym, refl, ap, ◌∙◌, ap₂, inl, inr, add-one, arith, drop_of_length-le, drop-cons, get_or-set_other, get_or-set_same}
+use Rattle.std.proofs.Common.{◌≡◌, ℕ, zero, suc, ◌+◌, ◌<◌, ◌≤◌, append-nil, eqb, List, [], ◌∷◌, ◌++◌, map, length, get_or, set, sym, refl, ap, ◌∙◌, ap₂, inl, inr, add-one, arith, get_or-set_other, get_or-set_same}
 use lib.ListN.{length-map}
+use Rattle.std.proofs.Math.Seq.{append_snoc}
 use Rattle.std.proofs.lemmas.Bool.{cases_eq, cond-true, cond-false, eq-eqb, ne_eqb}
 use Rattle.algebra.specs.Poly.{val, sum_below, product_below, part, factor, lagrange}
 use Rattle.algebra.specs.Ring.{CommRing, ops, sub}
@@ -12,9 +13,11 @@ read_map f [] i r d h e = let z : ⊥ = omega arith in absurd z
 read_map f (x ∷ xs) zero r d h e = ap f (sym e)
 read_map f (x ∷ xs) (suc i) r d h e = let k : i < length xs = omega arith in read_map f xs i r d k e
 
--- v is the value at x of the coefficients from place i on
-pub record Horner {E : Type 0} (K : CommRing E) (cs : List E) (x : E) (i : ℕ) (v : E) : Type 0 where
-  pub is : v ≡ val (ops K) (drop i cs) x
+-- v is the value at x of the coefficients behind those that are left
+pub record Horner {R E : Type 0} (K : CommRing E) (e : R → E) (all left : List R) (x v : E) : Type 0 where
+  pub done : List R
+  pub parts : left ++ done ≡ all
+  pub is : v ≡ val (ops K) (map e done) x
 
 -- v is the product of the first j parts of a factor
 pub record Factor {E : Type 0} (K : CommRing E) (p : ℕ → E) (u : ℕ → ℕ → E) (x : E) (i j : ℕ) (v : E) : Type 0 where
@@ -29,23 +32,20 @@ pub record Filled {E : Type 0} (row : List E) (f : ℕ → E) (d : E) (i : ℕ) 
   pub at : (k : ℕ) → k < i → get_or row k d ≡ f k
 
 module _ {E : Type 0} {K : CommRing E} where
-  pub horner_none : (cs : List E) (x : E) (i : ℕ) (v : E) → length cs ≤ i → v ≡ K.𝟎 → Horner K cs x i v
-  horner_none cs x i v le e = record { is = e ∙ ap (λ l. val (ops K) l x) (sym (drop_of_length-le cs le)) }
+  module _ {R : Type 0} {e : R → E} {all : List R} {x : E} where
+    pub horner_none : {left : List R} (v : E) → left ≡ all → v ≡ K.𝟎 → Horner K e all left x v
+    horner_none v whole zero_is = record { done = []; parts = append-nil _ ∙ whole; is = zero_is }
 
-  pub horner_more : {cs : List E} {x : E} {i : ℕ} {v : E} → Horner K cs x i v → 0 < i → i ≤ length cs
-      → (d m w : E) → m ≡ K.◌⊗◌ x v → w ≡ K.◌⊕◌ (get_or cs (i - 1) d) m → Horner K cs x (i - 1) w
-  horner_more {cs} {x} {i} {v} h some most d m w em ew =
-      let below : i - 1 < length cs = omega arith in
-      let one_up : suc (i - 1) ≡ i = omega arith in
-      record {
-        is =
-            ew
-            ∙ ap (K.◌⊕◌ (get_or cs (i - 1) d)) (em ∙ ap (K.◌⊗◌ x) (h.is ∙ ap (λ j. val (ops K) (drop j cs) x) (sym one_up)))
-            ∙ ap (λ l. val (ops K) l x) (sym (drop-cons cs (i - 1) d below));
-      }
+    pub horner_more : {left rest : List R} {v : E} → Horner K e all left x v → (c : R) → left ≡ rest ++ c ∷ [] → (m w : E) → m ≡ K.◌⊗◌ x v → w ≡ K.◌⊕◌ (e c) m → Horner K e all rest x w
+    horner_more {left} {rest} h c last m w em ew = record {
+      done = c ∷ h.done;
+      parts = sym (append_snoc rest c h.done) ∙ ap (λ l. l ++ h.done) (sym last) ∙ h.parts;
+      is = ew ∙ ap (K.◌⊕◌ (e c)) (em ∙ ap (K.◌⊗◌ x) h.is);
+    }
 
-  pub horner_all : {cs : List E} {x : E} {i : ℕ} {v : E} → Horner K cs x i v → i ≤ 0 → v ≡ val (ops K) cs x
-  horner_all {cs} {x} {i} h none = let zero_is : i ≡ 0 = omega arith in h.is ∙ ap (λ j. val (ops K) (drop j cs) x) zero_is
+    pub horner_all : {left : List R} {v : E} → Horner K e all left x v → length left ≡ 0 → v ≡ val (ops K) (map e all) x
+    horner_all {left = []} h none = h.is ∙ ap (λ l. val (ops K) (map e l) x) h.parts
+    horner_all {left = c ∷ left} h none = let z : ⊥ = omega arith in absurd z
 
   module _ {p : ℕ → E} {u : ℕ → ℕ → E} {x : E} where
     pub factor_none : (i : ℕ) (v : E) → v ≡ K.𝟏 → Factor K p u x i 0 v

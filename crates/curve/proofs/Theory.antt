@@ -10,8 +10,7 @@ use Rattle.algebra.proofs.Poly.{same_value}
 use Rattle.algebra.proofs.Solver.{ring2}
 use Rattle.ring.specs.Model.{PointLaws}
 use Rattle.ring.specs.declared.Ring.{Ghosts}
-use Rattle.curve.specs.declared.Opening.{Opening}
-use Rattle.curve.specs.declared.Opening.TheVariants.{Value, Fault}
+use Rattle.curve.specs.declared.OffCurve.{OffCurve}
 use Rattle.curve.specs.declared.refusal.Refusal.{Refusal}
 use Rattle.curve.specs.declared.refusal.Refusal.TheVariants.{Seats, Threshold, Length}
 use Rattle.curve.specs.Curve.{El, K, seats_wrong, word, share, listed, curve_refused, or_else, deal_refused, tested, DealtBy, Dealt, Through, Opens, Off, Answers, OpenedBy, Opened, Agree, OpensOnce, Returns, ComesBack}
@@ -33,7 +32,7 @@ pub dealt_ok : {R C : Type 0} (G : Ghosts R C) (n d : ℕ) (secret : R) (others 
     → Dealt G n d secret others before (Ok tt) after
 dealt_ok G n d secret others before after e is = subst (DealtBy G n secret others before (Ok tt) after) (sym e) (refl, is)
 
-pub opened_ok : {R C : Type 0} (G : Ghosts R C) (d : ℕ) (row : List R) (o : Opening R) → curve_refused G.points.count (length row) d ≡ None → Answers G d row o → Opened G d row (Ok o)
+pub opened_ok : {R C : Type 0} (G : Ghosts R C) (d : ℕ) (row : List R) (o : Result R OffCurve) → curve_refused G.points.count (length row) d ≡ None → Answers G d row o → Opened G d row (Ok o)
 opened_ok G d row o e a = subst (OpenedBy G d row (Ok o)) (sym e) a
 
 -- what is taken passed every test
@@ -169,11 +168,11 @@ module _ {R C : Type 0} (G : Ghosts R C) (laws : PointLaws G.shape G.points) whe
         ]
         ∙ sym b.counted
 
-    once : (a b : Opening R) → Answers G d row a → Answers G d row b → Agree G a b
-    once (Value v) (Value w) x y = values_agree (G.element v) (G.element w) x y
-    once (Value v) (Fault j) x y = y.none (G.element v) x
-    once (Fault i) (Value w) x y = x.none (G.element w) y
-    once (Fault i) (Fault j) x y = places_agree i j x y
+    once : (a b : Result R OffCurve) → Answers G d row a → Answers G d row b → Agree G a b
+    once (Ok v) (Ok w) x y = values_agree (G.element v) (G.element w) x y
+    once (Ok v) (Err j) x y = y.none (G.element v) x
+    once (Err i) (Ok w) x y = x.none (G.element w) y
+    once (Err i) (Err j) x y = places_agree i.seat j.seat x y
 
   -- the two answers of the code
   module _ (d : ℕ) (row : List R) (taken : curve_refused G.points.count (length row) d ≡ None) where
@@ -183,18 +182,19 @@ module _ {R C : Type 0} (G : Ghosts R C) (laws : PointLaws G.shape G.points) whe
     degree : d < length row
     degree = degree_below G.points.count (length row) d taken
 
-    pub opened_value : {i : ℕ} (r : R) (x : El G) → Agrees row (d + 1) i → length row ≤ i → x ≡ (K G).𝟎 → G.element r ≡ lagrange (K G) (d + 1) p u (word G row) x → Opened G d row (Ok (Value r))
+    pub opened_value : {i : ℕ} (r : R) (x : El G) → Agrees row (d + 1) i → length row ≤ i → x ≡ (K G).𝟎 → G.element r ≡ lagrange (K G) (d + 1) p u (word G row) x → Opened G d row (Ok (Ok r))
     opened_value {i} r x agrees all ex er =
-        opened_ok G d row (Value r) taken
+        opened_ok G d row (Ok r) taken
         (opens d row degree below (G.element r)
         (record { at = λ k low high. let under : k < i = omega arith in agrees.at k low under })
         (er ∙ ap (lagrange (K G) (d + 1) p u (word G row)) ex))
 
-    pub opened_fault : {s : ℕ} (x v w : El G) → Agrees row (d + 1) s → d + 1 ≤ s → s < length row → x ≡ p s → v ≡ lagrange (K G) (d + 1) p u (word G row) x → w ≡ word G row s → (v ≡ w → ⊥) → Opened G d row (Ok (Fault (s + 1)))
-    opened_fault {s} x v w agrees past inside ex ev ew differ =
-        opened_ok G d row (Fault (s + 1)) taken
+    pub opened_off : {s : ℕ} (x v w : El G) → Agrees row (d + 1) s → d + 1 ≤ s → s < length row → x ≡ p s → v ≡ lagrange (K G) (d + 1) p u (word G row) x → w ≡ word G row s → (v ≡ w → ⊥) → (e : OffCurve) → e.seat ≡ s + 1 → Opened G d row (Ok (Err e))
+    opened_off {s} x v w agrees past inside ex ev ew differ e seat =
+        opened_ok G d row (Err e) taken
+        (subst (Off G d row) (sym seat)
         (off d row degree below s past inside agrees
-        (λ e. differ (ev ∙ ap (lagrange (K G) (d + 1) p u (word G row)) ex ∙ e ∙ sym ew)))
+        (λ e. differ (ev ∙ ap (lagrange (K G) (d + 1) p u (word G row)) ex ∙ e ∙ sym ew))))
 
   pub opens_once : OpensOnce G
   opens_once d row taken = once d row (degree d row taken) (below d row taken)
@@ -227,9 +227,9 @@ module _ {R C : Type 0} (G : Ghosts R C) (laws : PointLaws G.shape G.points) whe
       at_zero = ring2 (K G) (λ c z. c :+ nil :* z := c) (G.element secret) (val (ops (K G)) (map G.element others) (K G).𝟎) refl;
     }
 
-    back : (r : Result (Opening R) Refusal) (o : Option Refusal) → o ≡ None → OpenedBy G d shares r o → Returns G (G.element secret) r
-    back (Ok (Value v)) None e a = values_agree d shares (omega (arith, long)) (omega (arith, long)) (G.element v) (G.element secret) a shares_open
-    back (Ok (Fault seat)) None e a = a.none (G.element secret) shares_open
+    back : (r : Result (Result R OffCurve) Refusal) (o : Option Refusal) → o ≡ None → OpenedBy G d shares r o → Returns G (G.element secret) r
+    back (Ok (Ok v)) None e a = values_agree d shares (omega (arith, long)) (omega (arith, long)) (G.element v) (G.element secret) a shares_open
+    back (Ok (Err off)) None e a = a.none (G.element secret) shares_open
     back (Err x) None e a = a
     back r (Some x) e a = let z : ◌≡◌ {A = ℕ} 0 1 = cc in let f : ⊥ = omega arith in absurd f
 

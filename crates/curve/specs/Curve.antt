@@ -6,8 +6,7 @@ use Rattle.algebra.specs.Quotient.{Element}
 use Rattle.algebra.specs.Ring.{CommRing, ops}
 use Rattle.ring.specs.Model.{ring}
 use Rattle.ring.specs.declared.Ring.{Ghosts}
-use Rattle.curve.specs.declared.Opening.{Opening}
-use Rattle.curve.specs.declared.Opening.TheVariants.{Value, Fault}
+use Rattle.curve.specs.declared.OffCurve.{OffCurve}
 use Rattle.curve.specs.declared.refusal.Refusal.{Refusal}
 use Rattle.curve.specs.declared.refusal.Refusal.TheVariants.{Seats, Threshold, Length}
 
@@ -34,6 +33,10 @@ share G cs k = val (ops (K G)) cs (G.points.at (k + 1))
 abbrev pub listed : {A : Type 0} → ℕ → (ℕ → A) → List A
 listed zero f = []
 listed (suc n) f = f zero ∷ listed n (λ k. f (suc k))
+
+-- why there are not n seats
+abbrev pub seats_refused : ℕ → ℕ → Option Refusal
+seats_refused points n = cond (seats_wrong points n) (Some Seats) None
 
 -- why a polynomial of degree d for n seats is refused
 abbrev pub curve_refused : ℕ → ℕ → ℕ → Option Refusal
@@ -85,42 +88,42 @@ pub record Off {R C : Type 0} (G : Ghosts R C) (d : ℕ) (row : List R) (seat : 
   pub through : Through G d place row polynomial
   pub off : share G polynomial place ≡ word G row place → ⊥
 
-abbrev pub Answers : {R C : Type 0} (G : Ghosts R C) → ℕ → List R → Opening R → Type 0
-Answers G d row (Value v) = Opens G d row (G.element v)
-Answers G d row (Fault seat) = Off G d row seat
+abbrev pub Answers : {R C : Type 0} (G : Ghosts R C) → ℕ → List R → Result R OffCurve → Type 0
+Answers G d row (Ok v) = Opens G d row (G.element v)
+Answers G d row (Err e) = Off G d row e.seat
 
-abbrev pub Answered : {R C : Type 0} (G : Ghosts R C) → ℕ → List R → Result (Opening R) Refusal → Type 0
+abbrev pub Answered : {R C : Type 0} (G : Ghosts R C) → ℕ → List R → Result (Result R OffCurve) Refusal → Type 0
 Answered G d row (Ok o) = Answers G d row o
 Answered G d row (Err e) = ⊥
 
-abbrev pub OpenedBy : {R C : Type 0} (G : Ghosts R C) → ℕ → List R → Result (Opening R) Refusal → Option Refusal → Type 0
+abbrev pub OpenedBy : {R C : Type 0} (G : Ghosts R C) → ℕ → List R → Result (Result R OffCurve) Refusal → Option Refusal → Type 0
 OpenedBy G d row r None = Answered G d row r
 OpenedBy G d row r (Some e) = r ≡ Err e
 
-abbrev pub Opened : {R C : Type 0} (G : Ghosts R C) → ℕ → List R → Result (Opening R) Refusal → Type 0
+abbrev pub Opened : {R C : Type 0} (G : Ghosts R C) → ℕ → List R → Result (Result R OffCurve) Refusal → Type 0
 Opened G d row r = OpenedBy G d row r (curve_refused G.points.count (length row) d)
 
 -- what two openings of one row have in common: all
-abbrev pub Agree : {R C : Type 0} (G : Ghosts R C) → Opening R → Opening R → Type 0
-Agree G (Value v) (Value w) = G.element v ≡ G.element w
-Agree G (Value v) (Fault j) = ⊥
-Agree G (Fault i) (Value w) = ⊥
-Agree G (Fault i) (Fault j) = i ≡ j
+abbrev pub Agree : {R C : Type 0} (G : Ghosts R C) → Result R OffCurve → Result R OffCurve → Type 0
+Agree G (Ok v) (Ok w) = G.element v ≡ G.element w
+Agree G (Ok v) (Err j) = ⊥
+Agree G (Err i) (Ok w) = ⊥
+Agree G (Err i) (Err j) = i.seat ≡ j.seat
 
 -- a row has one answer at most
 abbrev pub OpensOnce : {R C : Type 0} → Ghosts R C → Type 0
 OpensOnce {R} G =
     (d : ℕ) (row : List R) → curve_refused G.points.count (length row) d ≡ None
-    → (a b : Opening R) → Answers G d row a → Answers G d row b → Agree G a b
+    → (a b : Result R OffCurve) → Answers G d row a → Answers G d row b → Agree G a b
 
 -- the value w and nothing else
-abbrev pub Returns : {R C : Type 0} (G : Ghosts R C) → El G → Result (Opening R) Refusal → Type 0
-Returns G w (Ok (Value v)) = G.element v ≡ w
-Returns G w (Ok (Fault seat)) = ⊥
+abbrev pub Returns : {R C : Type 0} (G : Ghosts R C) → El G → Result (Result R OffCurve) Refusal → Type 0
+Returns G w (Ok (Ok v)) = G.element v ≡ w
+Returns G w (Ok (Err e)) = ⊥
 Returns G w (Err e) = ⊥
 
 -- a value that was dealt is what its shares open to
 abbrev pub ComesBack : {R C : Type 0} → Ghosts R C → Type 0
 ComesBack {R} G =
     (n d : ℕ) (secret : R) (others before shares : List R) → Dealt G n d secret others before (Ok tt) shares
-    → (r : Result (Opening R) Refusal) → Opened G d shares r → Returns G (G.element secret) r
+    → (r : Result (Result R OffCurve) Refusal) → Opened G d shares r → Returns G (G.element secret) r

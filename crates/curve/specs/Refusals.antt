@@ -1,5 +1,5 @@
--- The numbers of the refusals. Want of memory has none.
-use Rattle.std.specs.Prelude.{ℕ, Some, None, Option}
+-- The numbers and the names of the refusals. Want of memory has no number.
+use Rattle.std.specs.Prelude.{ℕ, List, Some, None, Option, codes}
 use Rattle.curve.specs.declared.refusal.Refusal.{Refusal}
 use Rattle.curve.specs.declared.refusal.Refusal.TheVariants.{Seats, Threshold, Length, Operand, Layout, Detail, Missing, Placed, Halted, Done, Seat, Common, Output, Unopened, Own, Memory}
 
@@ -20,3 +20,21 @@ number_of Output = Some 13
 number_of Unopened = Some 14
 number_of Own = Some 15
 number_of Memory = None
+
+abbrev pub name_of : Refusal → List ℕ
+name_of Seats = codes "seats"
+name_of Threshold = codes "threshold"
+name_of Length = codes "length"
+name_of Operand = codes "operand"
+name_of Layout = codes "layout"
+name_of Detail = codes "detail"
+name_of Missing = codes "missing"
+name_of Placed = codes "placed"
+name_of Halted = codes "halted"
+name_of Done = codes "done"
+name_of Seat = codes "seat"
+name_of Common = codes "common"
+name_of Output = codes "output"
+name_of Unopened = codes "unopened"
+name_of Own = codes "own"
+name_of Memory = codes "memory"

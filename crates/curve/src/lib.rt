@@ -3,27 +3,34 @@
 ghost use Rattle.std.specs.Prelude.{◌≡◌, ℕ, ◌+◌, ◌<◌, ◌≤◌, ◌∷◌, map, length};
 ghost use Rattle.algebra.specs.Poly.{val, factor as lagrange_factor, lagrange};
 ghost use Rattle.algebra.specs.Ring.{ops};
-ghost use Rattle.curve.specs.Curve.{K, curve_refused, tested, word, Dealt, Opened, OpensOnce, ComesBack};
+ghost use Rattle.curve.specs.Curve.{K, seats_refused, curve_refused, tested, word, Dealt, Opened, OpensOnce, ComesBack};
 
 use refusal::Refusal;
 use ring::Ring;
 
 pub mod refusal;
 
-// What a row of words opens to: a value, or the fault of the lowest seat off the polynomial through the first ones.
-#[derive(Clone, Copy)]
-pub enum Opening<R> {
-    Value(R),
-    Fault(usize),
+// Why a row does not open: the lowest seat whose word is off the polynomial through the first ones.
+#[derive(Clone, Copy, Debug, PartialEq, Eq, Hash)]
+pub struct OffCurve {
+    pub seat: usize,
+}
+
+// There are 1 to 31 seats, and fewer than points.
+pub fn test_seats<R: Ring>(n: usize) -> Result<(), Refusal>
+    ensures { result ≡ tested (seats_refused R.Ring.points.count n) }
+{
+    if n == 0 || n > 31 || n >= R::POINTS {
+        return Err(Refusal::Seats);
+    }
+    Ok(())
 }
 
 // The tests that dealing and opening share: the number of seats, then the degree.
 fn tests<R: Ring>(n: usize, degree: usize) -> Result<(), Refusal>
     ensures { result ≡ tested (curve_refused R.Ring.points.count n degree) }
 {
-    if n == 0 || n > 31 || n >= R::point_count() {
-        return Err(Refusal::Seats);
-    }
+    test_seats::<R>(n)?;
     if degree >= n {
         return Err(Refusal::Threshold);
     }
@@ -35,8 +42,8 @@ fn value_at<R: Ring>(secret: R, others: &[R], x: R) -> R
     ensures { R.Ring.element result ≡ val (ops (K R.Ring)) (map R.Ring.element (secret ∷ others.now)) (R.Ring.element x) }
 {
     let mut sum = R::zero();
-    for i in (0..others.len()).rev() {
-        sum = others[i].add(x.mul(sum));
+    for other in others.iter().rev() {
+        sum = other.add(x.mul(sum));
     }
     secret.add(x.mul(sum))
 }
@@ -55,8 +62,8 @@ pub fn deal<R: Ring>(
     if others.len() != degree || shares.len() != n {
         return Err(Refusal::Length);
     }
-    for i in 0..n {
-        shares[i] = value_at(secret, others, R::point(i + 1));
+    for (i, share) in shares.iter_mut().enumerate() {
+        *share = value_at(secret, others, R::point(i + 1));
     }
     Ok(())
 }
@@ -81,26 +88,26 @@ fn interpolated<R: Ring>(row: &[R], m: usize, x: R) -> R
     ensures { R.Ring.element result ≡ lagrange (K R.Ring) m (λ k. R.Ring.points.at (k + 1)) (λ k l. R.Ring.points.inv (k + 1) (l + 1)) (word R.Ring row.now) (R.Ring.element x) }
 {
     let mut sum = R::zero();
-    for i in 0..m {
-        sum = sum.add(row[i].mul(factor(m, i, x)));
+    for (i, word) in row[..m].iter().enumerate() {
+        sum = sum.add(word.mul(factor(m, i, x)));
     }
     sum
 }
 
 // Opens a row: the value at zero of the polynomial of at most this degree through all words, or the lowest seat off
 // the one through the first `degree` + 1.
-pub fn open_row<R: Ring>(degree: usize, row: &[R]) -> Result<Opening<R>, Refusal>
+pub fn open_row<R: Ring>(degree: usize, row: &[R]) -> Result<Result<R, OffCurve>, Refusal>
     ensures { Opened R.Ring degree row.now result }
 {
-    let n = row.len();
-    tests::<R>(n, degree)?;
+    tests::<R>(row.len(), degree)?;
     let m = degree + 1;
-    for s in m..n {
-        if !interpolated(row, m, R::point(s + 1)).same(row[s]) {
-            return Ok(Opening::Fault(s + 1));
+    for (k, word) in row[m..].iter().enumerate() {
+        let seat = m + k + 1;
+        if !interpolated(row, m, R::point(seat)).same(*word) {
+            return Ok(Err(OffCurve { seat }));
         }
     }
-    Ok(Opening::Value(interpolated(row, m, R::zero())))
+    Ok(Ok(interpolated(row, m, R::zero())))
 }
 
 // A row has one answer at most.

@@ -1,8 +1,10 @@
 -- Lists by their places, values laid out lane by lane, and products of lanes.
-use Rattle.std.specs.Prelude.{◌≡◌, ℕ, zero, suc, ◌+◌, ◌-◌, ◌*◌, ◌%◌, ◌<◌, ◌≤◌, min, ◌⊎◌, List, [], ◌∷◌, length, get_or, take, drop, set, slice_index, slice_index_or, slice_set, refl}
-use Rattle.std.proofs.Common.{sym, ap, ap₂, ◌∙◌, inl, inr, mod-eq_of_lt, add-zero, zero-add, arith, length-set, length-drop, drop_of_length-le, drop-cons, get_or-set_same, get_or-set_other, get_or-drop}
-use Rattle.std.proofs.Math.Nat.{mod-mod, add-mod}
-use Rattle.std.proofs.lemmas.List.{length-map}
+use Rattle.std.specs.Prelude.{◌≡◌, ℕ, zero, suc, ◌+◌, ◌*◌, ◌%◌, ◌<◌, ◌≤◌, ◌⊎◌, List, [], ◌∷◌, length, get_or, take, set, slice_index, slice_index_or, slice_set, refl}
+use Rattle.std.specs.List.{fold, zip}
+use Rattle.std.proofs.Common.{sym, ap, ap₂, ◌∙◌, inl, inr, mod-lt, mod-eq_of_lt, add-zero, zero-add, arith, length-set, get_or-set_same, get_or-set_other}
+use Rattle.std.proofs.Math.Nat.{mod-mod, mod-add-mod}
+use Rattle.std.proofs.lemmas.Grind.{same_number_lists}
+use Rattle.std.proofs.lemmas.List.{length-map, length-take, get_or-map, get_or-take, get_or_default, set_comm}
 use Rattle.std.proofs.Math.ListN.{get_or-eq_default}
 use Rattle.std.proofs.lemmas.Bool.{cases_eq, cases_lt}
 use Rattle.algebra.specs.Quotient.{Shape, Element, modulo, add, zeros}
@@ -12,20 +14,9 @@ use Rattle.encoding.specs.Layouts.{laid_over, read_at}
 use Rattle.encoding.specs.Positions.{Apart, laid_off}
 use Rattle.encoding.specs.Product.{zeros_at, length_add, add_at, at_below}
 
--- two lists with the same entries are one
-pub same_places : (xs ys : List ℕ) → length xs ≡ length ys → ((k : ℕ) → k < length xs → slice_index xs k ≡ slice_index ys k) → xs ≡ ys
-same_places [] [] e f = refl
-same_places [] (y ∷ ys) e f = let z : ⊥ = omega arith in absurd z
-same_places (x ∷ xs) [] e f = let z : ⊥ = omega arith in absurd z
-same_places (x ∷ xs) (y ∷ ys) e f =
-    let rest : length xs ≡ length ys = omega arith in
-    ap₂ (λ a l. a ∷ l) (f 0 (omega arith)) (same_places xs ys rest (λ k h. let up : suc k < suc (length xs) = omega arith in f (suc k) up))
-
 -- what is read at the k-th place
 pub read_place : (ps x : List ℕ) (k : ℕ) → k < length ps → slice_index (read_at ps x) k ≡ slice_index x (slice_index ps k)
-read_place [] x k h = let z : ⊥ = omega arith in absurd z
-read_place (p ∷ ps) x zero h = refl
-read_place (p ∷ ps) x (suc k) h = let b : k < length ps = omega arith in read_place ps x k b
+read_place ps x k h = get_or-map (λ p. slice_index x p) ps k 0 0 h
 
 pub products_in : (q : ℕ) (a b : List ℕ) (k : ℕ) → k < length a → k < length b → slice_index (lane_products q a b) k ≡ (slice_index a k * slice_index b k) % q
 products_in q [] b k ha hb = let z : ⊥ = omega arith in absurd z
@@ -40,47 +31,20 @@ products_past q (x ∷ a) (y ∷ b) zero past = elim past [ inl p ↦ (let z : �
 products_past q (x ∷ a) (y ∷ b) (suc k) past =
     products_past q a b k (elim past [ inl p ↦ inl (let l : length a ≤ k = omega arith in l) | inr p ↦ inr (let l : length b ≤ k = omega arith in l) ])
 
--- the sum of the first i products
-pub record Dotted (q : ℕ) (a b : List ℕ) (i sum : ℕ) : Type 0 where
-  pub is : sum ≡ dot (take i a) (take i b) % q
-
-pub dotted_none : (q : ℕ) → 0 < q → (a b : List ℕ) → Dotted q a b 0 0
-dotted_none q pos a b = record { is = sym (mod-eq_of_lt pos) }
-
-dot_more : (a b : List ℕ) (i : ℕ) → i < length a → i < length b → dot (take (suc i) a) (take (suc i) b) ≡ dot (take i a) (take i b) + slice_index a i * slice_index b i
-dot_more [] b i ha hb = let z : ⊥ = omega arith in absurd z
-dot_more (x ∷ a) [] i ha hb = let z : ⊥ = omega arith in absurd z
-dot_more (x ∷ a) (y ∷ b) zero ha hb = let e : x * y + 0 ≡ 0 + x * y = omega arith in e
-dot_more (x ∷ a) (y ∷ b) (suc i) ha hb =
-    let ka : i < length a = omega arith in
-    let kb : i < length b = omega arith in
-    let more = dot_more a b i ka kb in
-    let e : x * y + dot (take (suc i) a) (take (suc i) b) ≡ x * y + dot (take i a) (take i b) + slice_index a i * get_or b i 0 = omega arith in
-    e
-
-pub dotted_more : {q i sum : ℕ} (a b : List ℕ) → Dotted q a b i sum → i < length a → i < length b → (product next : ℕ) → product ≡ (slice_index a i * slice_index b i) % q → next ≡ (sum + product) % q → Dotted q a b (i + 1) next
-dotted_more {q} {i} {sum} a b d ha hb product next ep en =
-    let up : i + 1 ≡ suc i = omega arith in
-    record {
-      is =
-          en
-          ∙ ap₂ (λ x y. (x + y) % q) d.is ep
-          ∙ sym (add-mod (dot (take i a) (take i b)) (slice_index a i * slice_index b i) q)
-          ∙ ap (λ z. z % q) (sym (dot_more a b i ha hb) ∙ ap (λ j. dot (take j a) (take j b)) (sym up));
-    }
-
-dot_whole : (a b : List ℕ) (n : ℕ) → (length a ≤ n) ⊎ (length b ≤ n) → dot (take n a) (take n b) ≡ dot a b
-dot_whole [] b zero e = refl
-dot_whole [] b (suc n) e = refl
-dot_whole (x ∷ a) [] zero e = refl
-dot_whole (x ∷ a) [] (suc n) e = refl
-dot_whole (x ∷ a) (y ∷ b) zero e = elim e [ inl p ↦ (let z : ⊥ = omega arith in absurd z) | inr p ↦ (let z : ⊥ = omega arith in absurd z) ]
-dot_whole (x ∷ a) (y ∷ b) (suc n) e =
-    ap (λ z. x * y + z) (dot_whole a b n (elim e [ inl p ↦ inl (let l : length a ≤ n = omega arith in l) | inr p ↦ inr (let l : length b ≤ n = omega arith in l) ]))
-
-pub dotted_all : {q i sum : ℕ} (a b : List ℕ) → Dotted q a b i sum → min (length a) (length b) ≤ i → sum ≡ dot a b % q
-dotted_all {q} {i} {sum} a b d all =
-    d.is ∙ ap (λ z. z % q) (dot_whole a b i (elim (cases_lt i (length a)) [ inl less ↦ inr (let l : length b ≤ i = omega arith in l) | inr past ↦ inl past ]))
+-- the sum of the products, from m on, with each step modulo q
+pub dot_by_fold : (q m : ℕ) (a b : List ℕ) → m < q → fold (λ sum p. (sum + (p.0 * p.1) % q) % q) m (zip a b) ≡ (m + dot a b) % q
+dot_by_fold q m [] b small = sym (ap (λ n. n % q) (add-zero m) ∙ mod-eq_of_lt small)
+dot_by_fold q m (x ∷ a) [] small = sym (ap (λ n. n % q) (add-zero m) ∙ mod-eq_of_lt small)
+dot_by_fold q m (x ∷ a) (y ∷ b) small =
+    let pos : 0 < q = omega arith in
+    let rest = dot a b in
+    let out : m + (x * y) % q + rest ≡ (x * y) % q + (m + rest) = omega arith in
+    let back : x * y + (m + rest) ≡ m + (x * y + rest) = omega arith in
+    dot_by_fold q ((m + (x * y) % q) % q) a b (mod-lt (m + (x * y) % q) pos)
+    ∙ mod-add-mod (m + (x * y) % q) q rest
+    ∙ ap (λ n. n % q) out
+    ∙ mod-add-mod (x * y) q (m + rest)
+    ∙ ap (λ n. n % q) back
 
 -- one lane more, where zero stood before
 pub add_embedded : (s : Shape) (x : Element s) (v p : ℕ) → p < length s.h → slice_index x.0 p ≡ 0 → add (modulo s.q) x.0 (embedded s v p) ≡ slice_set x.0 p (v % s.q)
@@ -94,7 +58,7 @@ add_embedded s x v p inside blank =
     let long-x : length x.0 ≡ length s.h = x.1.0 in
     let sum = add (modulo s.q) x.0 (embedded s v p) in
     let long-s : length sum ≡ length x.0 = length_add s.q pos x.0 (embedded s v p) even in
-    same_places sum (slice_set x.0 p (v % s.q)) (long-s ∙ sym (length-set x.0 p (v % s.q)))
+    same_number_lists sum (slice_set x.0 p (v % s.q)) (long-s ∙ sym (length-set x.0 p (v % s.q)))
     (λ k h.
     let k-in : k < length x.0 = omega arith in
     add_at s.q pos x.0 (embedded s v p) k even k-in
@@ -114,67 +78,68 @@ add_embedded s x v p inside blank =
           ∙ sym (get_or-set_other x.0 p k (v % s.q) 0 other)
     ])
 
--- a place inside a list reads the same whatever stands for the others
-pub any_default : {A : Type 0} (xs : List A) (k : ℕ) (d e : A) → k < length xs → slice_index_or xs k d ≡ slice_index_or xs k e
-any_default [] k d e h = let z : ⊥ = omega arith in absurd z
-any_default (x ∷ xs) zero d e h = refl
-any_default (x ∷ xs) (suc k) d e h = let b : k < length xs = omega arith in any_default xs k d e b
-
 -- the degree stands for a lane that is none, and reads as 0
 pub read_lane_is : (ps x : List ℕ) (d lane : ℕ) → length x ≡ d → slice_index x (slice_index_or ps lane d) ≡ slice_index (read_at ps x) lane
 read_lane_is ps x d lane long = elim (cases_lt lane (length ps)) [
-  | inl inside ↦ ap (λ p. slice_index x p) (any_default ps lane d 0 inside) ∙ sym (read_place ps x lane inside)
+  | inl inside ↦ ap (λ p. slice_index x p) (get_or_default ps lane d 0 inside) ∙ sym (read_place ps x lane inside)
   | inr past ↦
       let far : length (read_at ps x) ≤ lane = omega (arith, length-map ps (λ p. slice_index x p)) in
       let end : length x ≤ d = omega arith in
       ap (λ p. slice_index x p) (get_or-eq_default ps d past) ∙ get_or-eq_default x 0 end ∙ sym (get_or-eq_default (read_at ps x) 0 far)
 ]
 
-laid_none : (q : ℕ) (base ps : List ℕ) → laid_over q base ps [] ≡ base
-laid_none q base [] = refl
-laid_none q base (p ∷ ps) = refl
+-- one lane more is laid out last
+laid_next : (q : ℕ) (base ps lanes : List ℕ) (l : ℕ) → Apart ps → l < length ps → l < length lanes
+    → laid_over q base (take (suc l) ps) (take (suc l) lanes) ≡ slice_set (laid_over q base (take l ps) (take l lanes)) (slice_index ps l) (slice_index lanes l % q)
+laid_next q base [] lanes l apart hp hl = let z : ⊥ = omega arith in absurd z
+laid_next q base (p ∷ ps) [] l apart hp hl = let z : ⊥ = omega arith in absurd z
+laid_next q base (p ∷ ps) (v ∷ lanes) zero apart hp hl = refl
+laid_next q base (p ∷ ps) (v ∷ lanes) (suc l) apart hp hl =
+    let kp : l < length ps = omega arith in
+    let kl : l < length lanes = omega arith in
+    ap (λ y. set y p (v % q)) (laid_next q base ps lanes l (λ i j hi hj e. let up : suc i ≡ suc j = apart (suc i) (suc j) (omega arith) (omega arith) e in omega arith) kp kl)
+    ∙ set_comm (laid_over q base (take l ps) (take l lanes)) (slice_index ps l) p (slice_index lanes l % q) (v % q)
+    (λ same. let z : suc l ≡ 0 = apart (suc l) 0 hp (omega arith) same in let f : ⊥ = omega arith in f)
 
 -- past the last lane nothing is laid out
-pub laid_end : (q : ℕ) (base ps lanes : List ℕ) (n : ℕ) → n ≡ min (length ps) (length lanes) → laid_over q base (drop n ps) (drop n lanes) ≡ base
-laid_end q base ps lanes n e = elim (cases_lt n (length ps)) [
-  | inl less ↦
-      let past : length lanes ≤ n = omega arith in
-      ap (laid_over q base (drop n ps)) (drop_of_length-le lanes past) ∙ laid_none q base (drop n ps)
-  | inr past ↦ ap (λ l. laid_over q base l (drop n lanes)) (drop_of_length-le ps past)
-]
+pub laid_all : (q : ℕ) (base ps lanes : List ℕ) (n : ℕ) → (length ps ≤ n) ⊎ (length lanes ≤ n) → laid_over q base (take n ps) (take n lanes) ≡ laid_over q base ps lanes
+laid_all q base [] lanes zero past = refl
+laid_all q base [] lanes (suc n) past = refl
+laid_all q base (p ∷ ps) [] zero past = refl
+laid_all q base (p ∷ ps) [] (suc n) past = refl
+laid_all q base (p ∷ ps) (v ∷ lanes) zero past = elim past [ inl h ↦ (let z : ⊥ = omega arith in absurd z) | inr h ↦ (let z : ⊥ = omega arith in absurd z) ]
+laid_all q base (p ∷ ps) (v ∷ lanes) (suc n) past =
+    ap (λ y. set y p (v % q))
+    (laid_all q base ps lanes n (elim past [ inl h ↦ inl (let k : length ps ≤ n = omega arith in k) | inr h ↦ inr (let k : length lanes ≤ n = omega arith in k) ]))
 
-pub laid_start : (s : Shape) (ps lanes : List ℕ) (z : Element s) (n : ℕ) → z ≡ (ring s).𝟎 → n ≡ min (length ps) (length lanes)
-    → z.0 ≡ laid_over s.q (zeros (modulo s.q) s.h) (drop n ps) (drop n lanes)
+pub laid_start : (s : Shape) (ps lanes : List ℕ) (z : Element s) → z ≡ (ring s).𝟎 → z.0 ≡ laid_over s.q (zeros (modulo s.q) s.h) (take 0 ps) (take 0 lanes)
 unfolding ring
-laid_start s ps lanes z n ez en = ap (λ x. x.0) ez ∙ sym (laid_end s.q (zeros (modulo s.q) s.h) ps lanes n en)
+laid_start s ps lanes z e = ap (λ x. x.0) e
 
--- the lane before the ones that are laid out already
+-- the next lane, after the ones that are laid out already
 pub laid_more : (s : Shape) (ps lanes : List ℕ) → Apart ps → ((k : ℕ) → k < length ps → slice_index ps k < length s.h)
-    → (x e r : Element s) (l p v : ℕ) → 0 < l → l ≤ min (length ps) (length lanes)
-    → x.0 ≡ laid_over s.q (zeros (modulo s.q) s.h) (drop l ps) (drop l lanes)
-    → v ≡ slice_index lanes (l - 1) → p ≡ slice_index_or ps (l - 1) (length s.h) → e.0 ≡ embedded s v p → r ≡ (ring s).◌⊕◌ x e
-    → r.0 ≡ laid_over s.q (zeros (modulo s.q) s.h) (drop (l - 1) ps) (drop (l - 1) lanes)
+    → (x e r : Element s) (l v p : ℕ) → l < length ps → l < length lanes
+    → x.0 ≡ laid_over s.q (zeros (modulo s.q) s.h) (take l ps) (take l lanes)
+    → v ≡ slice_index lanes l → p ≡ slice_index_or ps l (length s.h) → e.0 ≡ embedded s v p → r ≡ (ring s).◌⊕◌ x e
+    → r.0 ≡ laid_over s.q (zeros (modulo s.q) s.h) (take (l + 1) ps) (take (l + 1) lanes)
 unfolding ring
-laid_more s ps lanes apart low x e r l p v some most worked ev ep ee er =
+laid_more s ps lanes apart low x e r l v p in_p in-l worked ev ep ee er =
     let base = zeros (modulo s.q) s.h in
-    let i = l - 1 in
-    let one_up : suc i ≡ l = omega arith in
-    let in_p : i < length ps = omega arith in
-    let in-l : i < length lanes = omega arith in
-    let place : p ≡ get_or ps i 0 = ep ∙ any_default ps i (length s.h) 0 in_p in
-    let inside : p < length s.h = omega (arith, low i in_p) in
+    let up : suc l ≡ l + 1 = omega arith in
+    let place : p ≡ get_or ps l 0 = ep ∙ get_or_default ps l (length s.h) 0 in_p in
+    let inside : p < length s.h = omega (arith, low l in_p) in
     let blank : get_or x.0 p 0 ≡ 0 =
     ap (λ y. slice_index y p) worked
-    ∙ laid_off s.q base (drop l ps) (drop l lanes) p
+    ∙ laid_off s.q base (take l ps) (take l lanes) p
     (λ k h same.
-    let reach : l + k < length ps = omega (arith, length-drop l ps) in
-    let met : l + k ≡ i = apart (l + k) i reach in_p (sym (get_or-drop l ps k 0) ∙ same ∙ place) in
+    let before : k < l = omega (arith, length-take l ps) in
+    let met : k ≡ l = apart k l (omega arith) in_p (sym (get_or-take l ps k 0 before) ∙ same ∙ place) in
     let z : ⊥ = omega arith in z)
     ∙ zeros_at s.q s.h p in
     ap (λ y. y.0) er
     ∙ ap (add (modulo s.q) x.0) ee
     ∙ add_embedded s x v p inside blank
     ∙ ap₂ (λ y j. set y j (v % s.q)) worked place
-    ∙ ap (λ y. set (laid_over s.q base (drop l ps) (drop l lanes)) (slice_index ps i) (y % s.q)) ev
-    ∙ ap (λ j. set (laid_over s.q base (drop j ps) (drop j lanes)) (slice_index ps i) (slice_index lanes i % s.q)) (sym one_up)
-    ∙ ap₂ (laid_over s.q base) (sym (drop-cons ps i 0 in_p)) (sym (drop-cons lanes i 0 in-l))
+    ∙ ap (λ y. set (laid_over s.q base (take l ps) (take l lanes)) (slice_index ps l) (y % s.q)) ev
+    ∙ sym (laid_next s.q base ps lanes l apart in_p in-l)
+    ∙ ap (λ j. laid_over s.q base (take j ps) (take j lanes)) up

@@ -1,81 +1,34 @@
 -- Where lanes stand: the positions of a layout differ, and none reaches half of the degree.
-use Rattle.std.specs.Prelude.{◌≡◌, ℕ, zero, suc, ◌+◌, ◌*◌, ◌/◌, ◌%◌, ◌<◌, ◌≤◌, Bool, true, false, cond, ◌⊎◌, List, [], ◌∷◌, length, filter, ◌≢◌, nat_lt, slice_index, slice_index_or, refl}
-use Rattle.std.proofs.Common.{sym, ap, ◌∙◌, inl, inr, arith, length-set, get_or-set_same, get_or-set_other}
-use Rattle.std.proofs.lemmas.Bool.{cases_eq, ltb-true, lt-ltb, and_parts, and_from}
-use Rattle.std.specs.List.{range_with_len}
+use Rattle.std.specs.Prelude.{◌≡◌, ℕ, zero, suc, ◌+◌, ◌*◌, ◌/◌, ◌%◌, ◌<◌, ◌≤◌, true, ◌⊎◌, List, [], ◌∷◌, length, All, ◌≢◌, nat_lt, slice_index, refl}
+use Rattle.std.proofs.Common.{sym, ◌∙◌, inl, inr, arith, length-set, get_or-set_same, get_or-set_other}
+use Rattle.std.proofs.lemmas.Bool.{cases_eq, cases_lt, ltb-true, lt-ltb, and_parts, and_from}
+use Rattle.std.proofs.lemmas.List.Elements.{All-head, All-tail}
+use Rattle.std.proofs.lemmas.List.FromFn.{length-range_with_len, get_or-range_with_len}
+use Rattle.std.specs.List.{AllPairs, range_with_len}
 use Rattle.encoding.specs.Layouts.{low_digits, no_two, laid_over}
-
--- a list that rises, from b on
-abbrev pub Rising : ℕ → List ℕ → Type 0
-Rising b [] = Unit {0}
-Rising b (x ∷ xs) = (b ≤ x) × Rising (suc x) xs
-
-rising_less : (b c : ℕ) (xs : List ℕ) → c ≤ b → Rising b xs → Rising c xs
-rising_less b c [] h r = tt
-rising_less b c (x ∷ xs) h r = let k : c ≤ x = omega (arith, r.0) in (k, r.1)
-
-pub rising_counting : (a n : ℕ) → Rising a (range_with_len a n)
-rising_counting a zero = tt
-rising_counting a (suc n) = (omega arith, rising_less (a + 1) (suc a) (range_with_len (a + 1) n) (omega arith) (rising_counting (a + 1) n))
-
-pub rising_kept : (p : ℕ → Bool) (b : ℕ) (xs : List ℕ) → Rising b xs → Rising b (filter p xs)
-rising_kept p b [] r = tt
-rising_kept p b (x ∷ xs) r =
-    let rest : Rising (suc x) (filter p xs) = rising_kept p (suc x) xs r.1 in
-    elim (p x) as (λ t. Rising b (cond t (x ∷ filter p xs) (filter p xs))) [
-      | true ↦ (r.0, rest)
-      | false ↦ rising_less (suc x) b (filter p xs) (omega (arith, r.0)) rest
-    ]
-
-rising_from : (b : ℕ) (xs : List ℕ) → Rising b xs → (l : ℕ) → l < length xs → b ≤ slice_index xs l
-rising_from b [] r l h = let z : ⊥ = omega arith in absurd z
-rising_from b (x ∷ xs) r zero h = r.0
-rising_from b (x ∷ xs) r (suc l) h =
-    let k : l < length xs = omega arith in
-    let f : suc x ≤ slice_index_or xs l 0 = rising_from (suc x) xs r.1 l k in
-    omega (arith, r.0)
 
 -- no two places of the list have one position
 abbrev pub Apart : List ℕ → Type 0
 Apart xs = (i j : ℕ) → i < length xs → j < length xs → slice_index xs i ≡ slice_index xs j → i ≡ j
 
-pub rising_apart : (b : ℕ) (xs : List ℕ) → Rising b xs → Apart xs
-rising_apart b [] r i j hi hj e = let z : ⊥ = omega arith in absurd z
-rising_apart b (x ∷ xs) r zero zero hi hj e = refl
-rising_apart b (x ∷ xs) r zero (suc j) hi hj e =
-    let k : j < length xs = omega arith in
-    let f : suc x ≤ slice_index_or xs j 0 = rising_from (suc x) xs r.1 j k in
-    let z : ⊥ = omega arith in absurd z
-rising_apart b (x ∷ xs) r (suc i) zero hi hj e =
-    let k : i < length xs = omega arith in
-    let f : suc x ≤ slice_index_or xs i 0 = rising_from (suc x) xs r.1 i k in
-    let z : ⊥ = omega arith in absurd z
-rising_apart b (x ∷ xs) r (suc i) (suc j) hi hj e =
-    let ki : i < length xs = omega arith in
-    let kj : j < length xs = omega arith in
-    ap suc (rising_apart (suc x) xs r.1 i j ki kj e)
+pub rising_apart : (xs : List ℕ) → AllPairs (λ x y. x < y) xs → Apart xs
+rising_apart xs rises i j hi hj e = elim (cases_lt i j) [
+  | inl less ↦ let up = rises i j 0 less hj in let z : ⊥ = omega arith in absurd z
+  | inr most ↦ elim (cases_lt j i) [
+    | inl less ↦ let up = rises j i 0 less hi in let z : ⊥ = omega arith in absurd z
+    | inr least ↦ omega arith
+  ]
+]
 
--- what holds of all elements holds of those that are kept, and so does the test
-abbrev pub All : (ℕ → Type 0) → List ℕ → Type 0
-All Q [] = Unit {0}
-All Q (x ∷ xs) = Q x × All Q xs
-
-pub all_at : (Q : ℕ → Type 0) (xs : List ℕ) → All Q xs → (l : ℕ) → l < length xs → Q (slice_index xs l)
-all_at Q [] a l h = let z : ⊥ = omega arith in absurd z
-all_at Q (x ∷ xs) a zero h = a.0
-all_at Q (x ∷ xs) a (suc l) h = let k : l < length xs = omega arith in all_at Q xs a.1 l k
-
-pub all_kept : (p : ℕ → Bool) (Q : ℕ → Type 0) (xs : List ℕ) → All Q xs → All (λ x. (p x ≡ true) × Q x) (filter p xs)
-all_kept p Q [] a = tt
-all_kept p Q (x ∷ xs) a = go (p x) refl (all_kept p Q xs a.1)
-  where
-    go : (t : Bool) → p x ≡ t → All (λ x. (p x ≡ true) × Q x) (filter p xs) → All (λ x. (p x ≡ true) × Q x) (cond t (x ∷ filter p xs) (filter p xs))
-    go true e rest = ((e, a.0), rest)
-    go false e rest = rest
+pub rising_counting : (a n : ℕ) → AllPairs (λ x y. x < y) (range_with_len a n)
+rising_counting a n i j d less h =
+    let below : j < n = omega (arith, length-range_with_len a n) in
+    omega (arith, get_or-range_with_len a n i d (omega arith), get_or-range_with_len a n j d below)
 
 pub all_counting : (a n m : ℕ) → a + n ≤ m → All (λ x. x < m) (range_with_len a n)
-all_counting a zero m h = tt
-all_counting a (suc n) m h = (omega arith, all_counting (a + 1) n m (omega arith))
+all_counting a n m fits k d h =
+    let below : k < n = omega (arith, length-range_with_len a n) in
+    omega (arith, get_or-range_with_len a n k d below)
 
 -- What stands in a value laid out: lane l at position l, what stood there before elsewhere.
 pub length_laid : (q : ℕ) (base ps lanes : List ℕ) → length (laid_over q base ps lanes) ≡ length base
@@ -88,13 +41,13 @@ pub laid_at : (q : ℕ) (base ps lanes : List ℕ) → Apart ps → All (λ p. p
 laid_at q base [] lanes apart low e l h = let z : ⊥ = omega arith in absurd z
 laid_at q base (p ∷ ps) [] apart low e l h = let z : ⊥ = omega arith in absurd z
 laid_at q base (p ∷ ps) (v ∷ lanes) apart low e zero h =
-    let inside : p < length (laid_over q base ps lanes) = omega (arith, length_laid q base ps lanes, low.0) in
+    let inside : p < length (laid_over q base ps lanes) = omega (arith, length_laid q base ps lanes, All-head (λ t. t < length base) p ps low) in
     get_or-set_same (laid_over q base ps lanes) p (v % q) 0 inside
 laid_at q base (p ∷ ps) (v ∷ lanes) apart low e (suc l) h =
     let k : l < length ps = omega arith in
     let rest : length lanes ≡ length ps = omega arith in
     get_or-set_other (laid_over q base ps lanes) p (slice_index ps l) (v % q) 0 (λ same. let z : suc l ≡ 0 = apart (suc l) 0 h (omega arith) same in let f : ⊥ = omega arith in f)
-    ∙ laid_at q base ps lanes (λ i j hi hj s. let up : suc i ≡ suc j = apart (suc i) (suc j) (omega arith) (omega arith) s in omega arith) low.1 rest l k
+    ∙ laid_at q base ps lanes (λ i j hi hj s. let up : suc i ≡ suc j = apart (suc i) (suc j) (omega arith) (omega arith) s in omega arith) (All-tail (λ t. t < length base) p ps low) rest l k
 
 pub laid_off : (q : ℕ) (base ps lanes : List ℕ) (t : ℕ) → ((l : ℕ) → l < length ps → slice_index ps l ≢ t) → slice_index (laid_over q base ps lanes) t ≡ slice_index base t
 laid_off q base [] lanes t off = refl

@@ -2,7 +2,7 @@
 use Rattle.std.specs.Prelude.{◌≡◌, ℕ, zero, suc, ◌+◌, ◌-◌, ◌*◌, ◌%◌, ◌<◌, ◌≤◌, List, [], ◌∷◌, length, slice_index, slice_index_or, refl}
 use Rattle.std.proofs.Common.{sym, ap, ap₂, ◌∙◌, mod-lt, mod-eq_of_lt, add-zero, zero-mul, arith}
 use Rattle.std.proofs.Math.Nat.{mod_self, zero-mod, add-mod, sub-zero, mod-add-mod}
-use Rattle.std.proofs.lemmas.List.{length-map}
+use Rattle.std.proofs.lemmas.List.{length-map, get_or-map}
 use Rattle.algebra.specs.Quotient.{modulo, add, negate, scale, zeros, push, top, shift, product, AllBelow}
 
 -- f 0 + .. + f (n - 1)
@@ -76,9 +76,7 @@ module _ (q : ℕ) (pos : 0 < q) where
       add_at u v k e' h'
 
   pub scale_at : (a : ℕ) (v : List ℕ) (k : ℕ) → k < length v → slice_index (scale (modulo q) a v) k ≡ (a * slice_index v k) % q
-  scale_at a [] k h = let z : ⊥ = omega arith in absurd z
-  scale_at a (y ∷ v) zero h = refl
-  scale_at a (y ∷ v) (suc k) h = let h' : k < length v = omega arith in scale_at a v k h'
+  scale_at a v k h = get_or-map (λ x. (a * x) % q) v k 0 0 h
 
   pub at_below : (l : List ℕ) (k : ℕ) → AllBelow q l → slice_index l k < q
   at_below [] k low = pos
@@ -106,9 +104,7 @@ module _ (q : ℕ) (pos : 0 < q) where
   top_at c (b ∷ d ∷ v) (suc n) e = let k : suc (length v) ≡ suc n = omega arith in top_at b (d ∷ v) n k
 
   pub minus_at : (v : List ℕ) (k : ℕ) → k < length v → slice_index (negate (modulo q) v) k ≡ (q - slice_index v k) % q
-  minus_at [] k h = let z : ⊥ = omega arith in absurd z
-  minus_at (y ∷ v) zero h = refl
-  minus_at (y ∷ v) (suc k) h = let h' : k < length v = omega arith in minus_at v k h'
+  minus_at v k h = get_or-map (λ x. (q - x) % q) v k 0 0 h
 
   -- a value whose top coordinate is 0 is only moved up
   shift_at : (h v : List ℕ) (k : ℕ) → length v ≡ length h → AllBelow q v → top 0 v ≡ 0 → k < length h → slice_index (shift (modulo q) h v) k ≡ slice_index (push 0 v) k

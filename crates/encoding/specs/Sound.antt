@@ -1,8 +1,11 @@
 -- The law of each encoding, for every modulus and every monic polynomial.
-use Rattle.std.specs.Prelude.{◌≡◌, ℕ, zero, suc, pred, ◌+◌, ◌-◌, ◌*◌, ◌%◌, ◌<◌, ◌≤◌, true, List, [], ◌∷◌, map, reverse, length, get_or, ◌≢◌, slice_index, slice_index_or, refl}
+use Rattle.std.specs.Prelude.{◌≡◌, ℕ, zero, suc, pred, ◌+◌, ◌-◌, ◌*◌, ◌%◌, ◌<◌, ◌≤◌, true, List, [], ◌∷◌, map, reverse, length, All, get_or, ◌≢◌, slice_index, slice_index_or, refl}
 use Rattle.std.proofs.Common.{sym, ap, ap₂, ◌∙◌, inl, inr, add-zero, zero-add, zero-mul, mul-zero, arith}
 use Rattle.std.proofs.Math.Nat.{add-mod}
-use Rattle.std.proofs.lemmas.List.{length-map}
+use Rattle.std.proofs.lemmas.Grind.{same_number_lists}
+use Rattle.std.proofs.lemmas.List.{length-map, get_or-map, get_or_default}
+use Rattle.std.proofs.lemmas.List.Elements.{All-nil, All-cons, All-head, All-tail, All-filter, All-from_get_or, filter_passes}
+use Rattle.std.proofs.lemmas.List.Kept.{AllPairs-filter}
 use Rattle.std.proofs.Math.ListN.{get_or-eq_default}
 use Rattle.std.proofs.lemmas.List.FromFn.{length-range_with_len}
 use Rattle.std.proofs.lemmas.Bool.{cases_lt}
@@ -15,8 +18,8 @@ use Rattle.encoding.specs.Theorems.{LanesComeBack}
 use Rattle.encoding.specs.Layouts.{half, no_two, positions, read_at}
 use Rattle.encoding.specs.declared.layout.Layout.{Layout}
 use Rattle.encoding.specs.declared.layout.Layout.TheVariants.{Plain, Lanes, Left, Right}
-use Rattle.encoding.specs.Positions.{Apart, All, all_at, rising_apart, rising_counting, rising_kept, all_kept, all_counting, length_laid, laid_at, laid_off, sought, double_of_one}
-use Rattle.encoding.specs.Laying.{same_places, read_place, products_in, any_default}
+use Rattle.encoding.specs.Positions.{Apart, rising_apart, rising_counting, all_counting, length_laid, laid_at, laid_off, sought, double_of_one}
+use Rattle.encoding.specs.Laying.{read_place, products_in}
 use Rattle.encoding.specs.Search.{run_in, back_in, length_back}
 use Rattle.encoding.specs.Product.{zeros_at, total, total_none, plain_at, Room, terms}
 
@@ -25,21 +28,13 @@ pub record Placed (d : ℕ) (ps : List ℕ) : Type 0 where
   pub apart : Apart ps
   pub low : All (λ p. p < half d) ps
 
-apart_counting : (n : ℕ) → Apart (range_with_len 0 n)
-apart_counting n = rising_apart 0 (range_with_len 0 n) (rising_counting 0 n)
-
-all_by : (Q : ℕ → Type 0) (xs : List ℕ) → ((l : ℕ) → l < length xs → Q (slice_index xs l)) → All Q xs
-all_by Q [] f = tt
-all_by Q (x ∷ xs) f = (f 0 (omega arith), all_by Q xs (λ l h. let k : suc l < suc (length xs) = omega arith in f (suc l) k))
-
 pub placed : (layout : Layout) (d : ℕ) → 1 ≤ d → Placed d (positions layout d)
-placed Plain d some = record { apart = λ i j hi hj e. omega arith; low = ((let k : 0 < half d = omega arith in k), tt) }
+placed Plain d some = record { apart = λ i j hi hj e. omega arith; low = All-cons (λ p. p < half d) 0 [] (omega arith) (All-nil (λ p. p < half d)) }
 placed Lanes d some = record {
-  apart = rising_apart 0 (positions Lanes d) (rising_kept no_two 0 (range_with_len 0 (half d)) (rising_counting 0 (half d)));
-  low = all_by (λ p. p < half d) (positions Lanes d)
-      (λ l h. (all_at (λ x. (no_two x ≡ true) × (x < half d)) (positions Lanes d) (all_kept no_two (λ x. x < half d) (range_with_len 0 (half d)) (all_counting 0 (half d) (half d) (omega arith))) l h).1);
+  apart = rising_apart (positions Lanes d) (AllPairs-filter (λ x y. x < y) no_two (range_with_len 0 (half d)) (rising_counting 0 (half d)));
+  low = All-filter no_two (λ p. p < half d) (range_with_len 0 (half d)) (all_counting 0 (half d) (half d) (omega arith));
 }
-placed Left d some = record { apart = apart_counting (half d); low = all_counting 0 (half d) (half d) (omega arith) }
+placed Left d some = record { apart = rising_apart (range_with_len 0 (half d)) (rising_counting 0 (half d)); low = all_counting 0 (half d) (half d) (omega arith) }
 placed Right d some =
     let n = half d in
     let long = length_back n in
@@ -49,34 +44,19 @@ placed Right d some =
           let kj : j < n = omega arith in
           let same : n - 1 - i ≡ n - 1 - j = back_in n i 0 ki ∙ e ∙ sym (back_in n j 0 kj) in
           omega arith;
-      low = all_by (λ p. p < n) (reverse (range_with_len 0 n)) (λ l h. let k : l < n = omega arith in let m = back_in n l 0 k in let b : n - 1 - l < n = omega arith in omega arith);
+      low = All-from_get_or (λ p. p < n) (reverse (range_with_len 0 n)) 0 (λ l h. let k : l < n = omega arith in let m = back_in n l 0 k in let b : n - 1 - l < n = omega arith in omega arith);
     }
 
-double_place : (ps : List ℕ) (k : ℕ) → k < length ps → slice_index (map (λ p. 2 * p) ps) k ≡ 2 * slice_index ps k
-double_place [] k h = let z : ⊥ = omega arith in absurd z
-double_place (p ∷ ps) zero h = refl
-double_place (p ∷ ps) (suc k) h = let b : k < length ps = omega arith in double_place ps k b
-
 lanes_low : (d l : ℕ) → l < length (positions Lanes d) → slice_index (positions Lanes d) l < half d
-lanes_low d l h =
-    (all_at (λ x. (no_two x ≡ true) × (x < half d)) (positions Lanes d) (all_kept no_two (λ x. x < half d) (range_with_len 0 (half d)) (all_counting 0 (half d) (half d) (omega arith))) l h).1
+lanes_low d l h = All-filter no_two (λ p. p < half d) (range_with_len 0 (half d)) (all_counting 0 (half d) (half d) (omega arith)) l 0 h
 
 -- where a lane of the result is read
 pub doubled_low : (d lane p : ℕ) → p ≡ slice_index_or (positions Lanes d) lane d → p < d → 2 * p ≤ d
 doubled_low d lane p e h = elim (cases_lt lane (length (positions Lanes d))) [
   | inl inside ↦
       let low = lanes_low d lane inside in
-      let same : p ≡ get_or (positions Lanes d) lane 0 = e ∙ any_default (positions Lanes d) lane d 0 inside in
+      let same : p ≡ get_or (positions Lanes d) lane 0 = e ∙ get_or_default (positions Lanes d) lane d 0 inside in
       let b : 2 * p ≤ d = omega arith in b
-  | inr past ↦ let none : p ≡ d = e ∙ get_or-eq_default (positions Lanes d) d past in let z : ⊥ = omega arith in absurd z
-]
-
-pub doubled_in : (d lane p : ℕ) → p ≡ slice_index_or (positions Lanes d) lane d → p < d → 2 * p ≡ slice_index_or (map (λ x. 2 * x) (positions Lanes d)) lane d
-doubled_in d lane p e h = elim (cases_lt lane (length (positions Lanes d))) [
-  | inl inside ↦
-      let many : lane < length (map (λ x. 2 * x) (positions Lanes d)) = omega (arith, length-map (positions Lanes d) (λ x. 2 * x)) in
-      ap (λ x. 2 * x) (e ∙ any_default (positions Lanes d) lane d 0 inside)
-      ∙ sym (any_default (map (λ x. 2 * x) (positions Lanes d)) lane d 0 many ∙ double_place (positions Lanes d) lane inside)
   | inr past ↦ let none : p ≡ d = e ∙ get_or-eq_default (positions Lanes d) d past in let z : ⊥ = omega arith in absurd z
 ]
 
@@ -84,7 +64,7 @@ pub doubled_out : (d lane p : ℕ) → p ≡ slice_index_or (positions Lanes d) 
 doubled_out d lane p e h = elim (cases_lt lane (length (positions Lanes d))) [
   | inl inside ↦
       let low = lanes_low d lane inside in
-      let same : p ≡ get_or (positions Lanes d) lane 0 = e ∙ any_default (positions Lanes d) lane d 0 inside in
+      let same : p ≡ get_or (positions Lanes d) lane 0 = e ∙ get_or_default (positions Lanes d) lane d 0 inside in
       let z : ⊥ = omega arith in absurd z
   | inr past ↦
       let far : length (map (λ x. 2 * x) (positions Lanes d)) ≤ lane = omega (arith, length-map (positions Lanes d) (λ x. 2 * x)) in
@@ -93,12 +73,11 @@ doubled_out d lane p e h = elim (cases_lt lane (length (positions Lanes d))) [
 
 pub position_low : (layout : Layout) (d : ℕ) → 1 ≤ d → (l : ℕ) → l < length (positions layout d) → slice_index (positions layout d) l < d
 position_low layout d some l h =
-    let low : get_or (positions layout d) l 0 < half d = all_at (λ x. x < half d) (positions layout d) (placed layout d some).low l h in
+    let low : get_or (positions layout d) l 0 < half d = (placed layout d some).low l 0 h in
     omega arith
 
 lanes_test : (d l : ℕ) → l < length (positions Lanes d) → no_two (slice_index (positions Lanes d) l) ≡ true
-lanes_test d l h =
-    (all_at (λ x. (no_two x ≡ true) × (x < half d)) (positions Lanes d) (all_kept no_two (λ x. x < half d) (range_with_len 0 (half d)) (all_counting 0 (half d) (half d) (omega arith))) l h).0
+lanes_test d l h = filter_passes no_two (range_with_len 0 (half d)) l 0 h
 
 -- one term alone
 pub total_one : (n : ℕ) (f : ℕ → ℕ) (k : ℕ) → k < n → ((i : ℕ) → i < n → (i ≢ k) → f i ≡ 0) → total n f ≡ f k
@@ -126,7 +105,7 @@ module _ (s : Shape) where
         let p = placed layout (length s.h) s.some in
         let base = zeros (modulo s.q) s.h in
         laid_at s.q base (positions layout (length s.h)) lanes p.apart
-        (all_by (λ x. x < length base) (positions layout (length s.h)) (λ l h. let b : get_or (positions layout (length s.h)) l 0 < half (length s.h) = all_at (λ x. x < half (length s.h)) (positions layout (length s.h)) p.low l h in omega (arith, base_long)))
+        (All-from_get_or (λ x. x < length base) (positions layout (length s.h)) 0 (λ l h. let b : get_or (positions layout (length s.h)) l 0 < half (length s.h) = p.low l 0 h in omega (arith, base_long)))
         count
 
     pub off : (t : ℕ) → ((l : ℕ) → l < length (positions layout (length s.h)) → slice_index (positions layout (length s.h)) l ≢ t) → slice_index (laid s layout lanes) t ≡ 0
@@ -134,7 +113,7 @@ module _ (s : Shape) where
 
     high : (t : ℕ) → half (length s.h) ≤ t → slice_index (laid s layout lanes) t ≡ 0
     high t big = off t (λ l h e.
-        let b : get_or (positions layout (length s.h)) l 0 < half (length s.h) = all_at (λ x. x < half (length s.h)) (positions layout (length s.h)) (placed layout (length s.h) s.some).low l h in
+        let b : get_or (positions layout (length s.h)) l 0 < half (length s.h) = (placed layout (length s.h) s.some).low l 0 h in
         let z : ⊥ = omega arith in z)
 
   -- a value in one layout times a value in another: nothing is reduced
@@ -151,11 +130,6 @@ module _ (s : Shape) where
         | inr up ↦ ap (λ z. z * slice_index (laid s right b) j) (high left a i up) ∙ zero-mul (slice_index (laid s right b) j)
       ] in
       plain_at s.q pos s.h (laid s left a) (laid s right b) n whole (long right b) room k (omega arith)
-
-reduced_at : (q : ℕ) (xs : List ℕ) (k : ℕ) → k < length xs → slice_index (map (λ v. v % q) xs) k ≡ slice_index xs k % q
-reduced_at q [] k h = let z : ⊥ = omega arith in absurd z
-reduced_at q (x ∷ xs) zero h = refl
-reduced_at q (x ∷ xs) (suc k) h = let b : k < length xs = omega arith in reduced_at q xs k b
 
 reduced_product : (q x y : ℕ) → ((x % q) * (y % q)) % q ≡ (x * y) % q
 reduced_product q x y = mod_mul_mod x (y % q) q ∙ mul_mod_mod x y q
@@ -183,11 +157,11 @@ lanes_come_back s layout lanes count =
     let ps = positions layout (length s.h) in
     let x = laid s layout lanes in
     let many : length (read_at ps x) ≡ length ps = length-map ps (λ p. slice_index x p) in
-    same_places (read_at ps x) (map (λ v. v % s.q) lanes) (omega (arith, length-map lanes (λ v. v % s.q)))
+    same_number_lists (read_at ps x) (map (λ v. v % s.q) lanes) (omega (arith, length-map lanes (λ v. v % s.q)))
     (λ k h.
     let inside : k < length ps = omega arith in
     let under : k < length lanes = omega arith in
-    read_place ps x k inside ∙ here s layout lanes count k inside ∙ sym (reduced_at s.q lanes k under))
+    read_place ps x k inside ∙ here s layout lanes count k inside ∙ sym (get_or-map (λ v. v % s.q) lanes k 0 0 under))
 
 -- at the double of a lane's position only that lane meets itself
 module _ (s : Shape) (a b : List ℕ) (ca : length a ≡ length (positions Lanes (length s.h))) (cb : length b ≡ length (positions Lanes (length s.h))) where
@@ -213,7 +187,7 @@ module _ (s : Shape) (a b : List ℕ) (ca : length a ≡ length (positions Lanes
       → slice_index (product (modulo s.q) s.h (laid s Lanes a) (laid s Lanes b)) (2 * slice_index (positions Lanes (length s.h)) k) ≡ (slice_index a k * slice_index b k) % s.q
   lane_law k inside =
       let p = get_or (positions Lanes (length s.h)) k 0 in
-      let low : p < half (length s.h) = all_at (λ x. x < half (length s.h)) (positions Lanes (length s.h)) (placed Lanes (length s.h) s.some).low k inside in
+      let low : p < half (length s.h) = (placed Lanes (length s.h) s.some).low k 0 inside in
       let back : 2 * p - p ≡ p = omega arith in
       plain_value s Lanes Lanes a b (2 * p) (omega arith)
       ∙ ap (λ z. z % s.q)
@@ -232,18 +206,18 @@ lanes_sound = record {
       let reads = map (λ p. 2 * p) ps in
       let x = product (modulo s.q) s.h (laid s Lanes a) (laid s Lanes b) in
       let many : length (read_at reads x) ≡ length ps = length-map reads (λ p. slice_index x p) ∙ length-map ps (λ p. 2 * p) in
-      same_places (read_at reads x) (lane_products s.q a b) (omega (arith, length_products s.q a b (ca ∙ sym cb)))
+      same_number_lists (read_at reads x) (lane_products s.q a b) (omega (arith, length_products s.q a b (ca ∙ sym cb)))
       (λ k h.
       let inside : k < length ps = omega arith in
       let reach : k < length reads = omega (arith, length-map ps (λ p. 2 * p)) in
       let in-a : k < length a = omega arith in
       let in_b : k < length b = omega arith in
-      read_place reads x k reach ∙ ap (λ p. slice_index x p) (double_place ps k inside) ∙ lane_law s a b ca cb k inside ∙ sym (products_in s.q a b k in-a in_b));
+      read_place reads x k reach ∙ ap (λ p. slice_index x p) (get_or-map (λ p. 2 * p) ps k 0 0 inside) ∙ lane_law s a b ca cb k inside ∙ sym (products_in s.q a b k in-a in_b));
 }
   where
     below_list : (d : ℕ) (ps : List ℕ) → All (λ p. p < half d) ps → AllBelow d (map (λ p. 2 * p) ps)
     below_list d [] low = tt
-    below_list d (p ∷ ps) low = ((let k : 2 * p < d = omega (arith, low.0) in k), below_list d ps low.1)
+    below_list d (p ∷ ps) low = ((let k : 2 * p < d = omega (arith, All-head (λ x. x < half d) p ps low) in k), below_list d ps (All-tail (λ x. x < half d) p ps low))
 
 -- the sum of the lanes' products, term by term
 dot_is : (a b : List ℕ) → length a ≡ length b → dot a b ≡ total (length a) (λ i. slice_index a i * slice_index b i)

@@ -36,34 +36,27 @@ pub trait Encoding {
 fn product_of<R: Ring>(a: u64, b: u64) -> u64
     ensures { result ≡ (a * b) % R.Ring.shape.q }
 {
-    (u128::from(a) * u128::from(b) % R::coordinate_modulus()) as u64
+    (u128::from(a) * u128::from(b) % R::MODULUS) as u64
 }
 
 // The sum of two numbers modulo q.
 fn sum_of<R: Ring>(a: u64, b: u64) -> u64
     ensures { result ≡ (a + b) % R.Ring.shape.q }
 {
-    ((u128::from(a) + u128::from(b)) % R::coordinate_modulus()) as u64
-}
-
-fn lane_or_zero(lanes: &[u64], lane: usize) -> u64
-    ensures { result ≡ slice_index lanes.now lane }
-{
-    if lane < lanes.len() { lanes[lane] } else { 0 }
+    ((u128::from(a) + u128::from(b)) % R::MODULUS) as u64
 }
 
 // The sum of the products of the lanes.
 fn dot_of<R: Ring>(left: &[u64], right: &[u64]) -> u64
     ensures { result ≡ dot left.now right.now % R.Ring.shape.q }
 {
-    let mut sum = 0;
-    for l in 0..left.len().min(right.len()) {
-        sum = sum_of::<R>(sum, product_of::<R>(left[l], right[l]));
-    }
-    sum
+    left.iter()
+        .zip(right)
+        .fold(0, |sum, (&a, &b)| sum_of::<R>(sum, product_of::<R>(a, b)))
 }
 
 // The product of single lanes.
+#[derive(Clone, Copy, Debug)]
 pub struct PlainProduct;
 
 impl Encoding for PlainProduct {
@@ -84,18 +77,25 @@ impl Encoding for PlainProduct {
     }
 
     fn read_position(degree: usize, lane: usize) -> usize {
-        if lane == 0 { 0 } else { degree }
+        match lane {
+            0 => 0,
+            _ => degree,
+        }
     }
 
     fn product_lane<R: Ring>(left: &[u64], right: &[u64], lane: usize) -> u64 {
-        if lane != 0 {
-            return 0;
+        match lane {
+            0 => product_of::<R>(
+                left.first().copied().unwrap_or(0),
+                right.first().copied().unwrap_or(0),
+            ),
+            _ => 0,
         }
-        product_of::<R>(lane_or_zero(left, 0), lane_or_zero(right, 0))
     }
 }
 
 // The products lane by lane.
+#[derive(Clone, Copy, Debug)]
 pub struct LanesProduct;
 
 impl Encoding for LanesProduct {
@@ -125,14 +125,15 @@ impl Encoding for LanesProduct {
     }
 
     fn product_lane<R: Ring>(left: &[u64], right: &[u64], lane: usize) -> u64 {
-        if lane >= left.len() || lane >= right.len() {
-            return 0;
+        match (left.get(lane), right.get(lane)) {
+            (Some(&a), Some(&b)) => product_of::<R>(a, b),
+            _ => 0,
         }
-        product_of::<R>(left[lane], right[lane])
     }
 }
 
 // The sum of the lanes' products.
+#[derive(Clone, Copy, Debug)]
 pub struct DotProduct;
 
 impl Encoding for DotProduct {
@@ -153,17 +154,16 @@ impl Encoding for DotProduct {
     }
 
     fn read_position(degree: usize, lane: usize) -> usize {
-        if lane == 0 {
-            half_of(degree).saturating_sub(1)
-        } else {
-            degree
+        match lane {
+            0 => half_of(degree).saturating_sub(1),
+            _ => degree,
         }
     }
 
     fn product_lane<R: Ring>(left: &[u64], right: &[u64], lane: usize) -> u64 {
-        if lane != 0 {
-            return 0;
+        match lane {
+            0 => dot_of::<R>(left, right),
+            _ => 0,
         }
-        dot_of::<R>(left, right)
     }
 }

@@ -1,10 +1,12 @@
 ghost use Rattle.std.specs.Prelude.{◌≡◌, length, filter, slice_index_or};
 ghost use Rattle.encoding.specs.Layouts.{half, no_two, positions};
 ghost use Rattle.std.specs.List.{range_with_len};
-ghost use Rattle.encoding.specs.Numbers.{layout_of, number_of};
+ghost use Rattle.encoding.specs.Numbers.{IsLayoutOf, number_of};
+
+use crate::numbers::NoNumber;
 
 // Where the lanes of a value stand among an element's coordinates.
-#[derive(Clone, Copy, PartialEq, Eq)]
+#[derive(Clone, Copy, Debug, PartialEq, Eq, Hash)]
 pub enum Layout {
     Plain,
     Lanes,
@@ -15,84 +17,54 @@ pub enum Layout {
 pub(crate) fn half_of(degree: usize) -> usize
     ensures { result ≡ half degree }
 {
-    degree / 2 + degree % 2
+    degree.div_ceil(2)
 }
 
 // Whether all digits in base three are 0 or 1.
 fn lacks_two(number: usize) -> bool
     ensures { result ≡ no_two number }
 {
-    let mut rest = number;
-    while rest > 0 {
-        if rest % 3 == 2 {
-            return false;
-        }
-        rest /= 3;
-    }
-    true
+    number == 0 || number % 3 != 2 && lacks_two(number / 3)
 }
 
-// How many numbers below `end` lack the digit 2.
-fn count_lanes(end: usize) -> usize
-    ensures { result ≡ length (filter no_two (range_with_len 0 end)) }
-{
-    let mut count = 0;
-    for p in 0..end {
-        if lacks_two(p) {
-            count += 1;
-        }
-    }
-    count
-}
+impl TryFrom<u32> for Layout {
+    type Error = NoNumber;
 
-// The number at place `lane` among those below `end` that lack the digit 2, or `other`.
-fn find_lane(end: usize, lane: usize, other: usize) -> usize
-    ensures { result ≡ slice_index_or (filter no_two (range_with_len 0 end)) lane other }
-{
-    let mut count = 0;
-    for p in 0..end {
-        if lacks_two(p) {
-            if count == lane {
-                return p;
-            }
-            count += 1;
-        }
-    }
-    other
-}
+    ghost try_from_gives = { IsLayoutOf };
 
-impl Layout {
-    // The layout of this number, if there is one.
-    pub fn numbered(number: u32) -> Option<Layout>
-        ensures { result ≡ layout_of number }
-    {
+    fn try_from(number: u32) -> Result<Self, NoNumber> {
         match number {
-            0 => Some(Layout::Plain),
-            1 => Some(Layout::Lanes),
-            2 => Some(Layout::Left),
-            3 => Some(Layout::Right),
-            _ => None,
+            0 => Ok(Layout::Plain),
+            1 => Ok(Layout::Lanes),
+            2 => Ok(Layout::Left),
+            3 => Ok(Layout::Right),
+            _ => Err(NoNumber(number)),
         }
     }
+}
 
-    pub fn number(self) -> u32
-        ensures { result ≡ number_of self }
-    {
-        match self {
+impl From<Layout> for u32 {
+    ghost from_gives = { λ layout number. number ≡ number_of layout };
+
+    fn from(layout: Layout) -> u32 {
+        match layout {
             Layout::Plain => 0,
             Layout::Lanes => 1,
             Layout::Left => 2,
             Layout::Right => 3,
         }
     }
+}
 
+impl Layout {
     pub fn lane_count(self, degree: usize) -> usize
         ensures { result ≡ length (positions self degree) }
     {
+        let end = half_of(degree);
         match self {
             Layout::Plain => 1,
-            Layout::Lanes => count_lanes(half_of(degree)),
-            Layout::Left | Layout::Right => half_of(degree),
+            Layout::Lanes => (0..end).filter(|&p| lacks_two(p)).count(),
+            Layout::Left | Layout::Right => end,
         }
     }
 
@@ -102,10 +74,14 @@ impl Layout {
     {
         let end = half_of(degree);
         match self {
-            Layout::Plain => { if lane == 0 { 0 } else { degree } }
-            Layout::Lanes => find_lane(end, lane, degree),
-            Layout::Left => { if lane < end { lane } else { degree } }
-            Layout::Right => { if lane < end { end - 1 - lane } else { degree } }
+            Layout::Plain if lane == 0 => 0,
+            Layout::Lanes => (0..end)
+                .filter(|&p| lacks_two(p))
+                .nth(lane)
+                .unwrap_or(degree),
+            Layout::Left if lane < end => lane,
+            Layout::Right if lane < end => end - 1 - lane,
+            _ => degree,
         }
     }
 }

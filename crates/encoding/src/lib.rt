@@ -8,6 +8,7 @@ ghost use Rattle.encoding.specs.Theorems.{HalfIsLargest, LanesComeBack};
 pub mod encodings;
 pub mod layout;
 pub mod methods;
+pub mod numbers;
 pub mod values;
 
 use encodings::Encoding;

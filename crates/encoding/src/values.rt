@@ -11,11 +11,10 @@ use ring::{Number, Ring};
 pub fn lay_out<R: Ring>(layout: Layout, lanes: &[u64]) -> R
     ensures { (R.Ring.element result).0 ≡ laid R.Ring.shape layout lanes.now }
 {
-    let coordinates = R::coordinate_count();
-    let count = layout.lane_count(coordinates).min(lanes.len());
+    let count = layout.lane_count(R::DEGREE).min(lanes.len());
     let mut sum = R::zero();
-    for l in (0..count).rev() {
-        sum = sum.add(R::embed(lanes[l], layout.position(coordinates, l)));
+    for (l, &lane) in lanes[..count].iter().enumerate() {
+        sum = sum.add(R::embed(lane, layout.position(R::DEGREE, l)));
     }
     sum
 }
@@ -24,6 +23,5 @@ pub fn lay_out<R: Ring>(layout: Layout, lanes: &[u64]) -> R
 pub fn read_lane<R: Ring>(layout: Layout, value: R, lane: usize) -> u64
     ensures { result ≡ slice_index (read_at (positions layout (degree R.Ring.shape)) (R.Ring.element value).0) lane }
 {
-    let position = layout.position(R::coordinate_count(), lane);
-    value.coordinate(position).wide()
+    value.coordinate(layout.position(R::DEGREE, lane)).wide()
 }

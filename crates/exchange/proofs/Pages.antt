@@ -1,12 +1,13 @@
 -- The pages of tables: what a part that is filled, an emptied table and a count of places mean for the squares.
-use Rattle.std.proofs.Common.{◌≡◌, ℕ, zero, suc, pred, ◌+◌, ◌*◌, ◌<◌, ◌≤◌, Bool, true, false, cond, ◌&&◌, ◌||◌, eqb, ltb, leb, List, length, get_or, set, is_some, Some, None, Ok, Option, Result, sym, refl, ap, ◌∙◌, inl, inr, add-zero, arith}
-use Rattle.std.proofs.lemmas.List.{get_or-set_same, get_or-set_other, get_or_past, length-set}
-use Rattle.std.proofs.lemmas.Bool.{and_from, cases_Bool, cases_eq, cases_lt, cond-true, cond-false, le-leb}
+use Rattle.std.proofs.Common.{◌≡◌, ℕ, zero, suc, pred, ◌+◌, ◌*◌, ◌<◌, ◌≤◌, Bool, true, false, cond, ◌&&◌, ◌||◌, eqb, ltb, leb, List, length, get_or, set, replicate, is_some, Some, None, Ok, Option, Result, sym, refl, ap, ◌∙◌, inl, inr, add-zero, arith}
+use Rattle.std.proofs.lemmas.List.{get_or-set_same, get_or-set_other, length-set}
+use Rattle.std.proofs.lemmas.Bool.{and_from, cases_eq, cond-true, cond-false}
 use Rattle.std.proofs.lemmas.Bool.Decides.{nat_tests}
+use Rattle.std.proofs.lemmas.Grind.{common_steps}
 use Rattle.curve.specs.Curve.{seats_wrong}
 use Rattle.curve.specs.declared.refusal.Refusal.{Refusal}
 use Rattle.curve.specs.declared.refusal.Refusal.TheVariants.{Seats, Length, Placed, Seat}
-use Rattle.exchange.specs.Sheet.{Page, seat, some, total, blank, written, outcome, sent, all_refused, one_refused, place_all, place_one, missing, set_seats}
+use Rattle.exchange.specs.Sheet.{Page, seat, some, total, written, outcome, sent, all_refused, one_refused, place_all, place_one, missing, set_seats}
 use Rattle.exchange.specs.Tables.{table_page, lines_page, board_page, held, empties, filled}
 use Rattle.exchange.proofs.Places.{outside_all, outside_one, row_of, square_of, column_of, row_within}
 use Rattle.exchange.proofs.Counts.{seat_up, some_same, some_constant, total_same, total_constant, total_times, total_rows}
@@ -30,15 +31,6 @@ outcome_like {S} f e d r x y z w is same next = ap (λ (p : Result (Unit {0}) Re
     through : (o : Option Refusal) → ((outcome o x z).0, f (outcome o x z).1) ≡ outcome o (f x) w
     through None = ap (λ t. (Ok tt, t)) next
     through (Some b) = refl
-
--- n seats are taken
-pub seats_taken : {R : Type 0} (points : ℕ) (need : ℕ → ℕ) (x y : Page R) (n : ℕ) → seats_wrong points n ≡ false → need n ≤ x.room → y ≡ blank n x.room
-    → ◌≡◌ {A = Result (Unit {0}) Refusal × Page R} (Ok tt, y) (set_seats points need x n)
-seats_taken points need x y n right room is =
-    ap (λ t. (Ok tt, t)) is
-    ∙ sym
-    (ap (λ o. outcome o x (blank n x.room))
-    (cond-false (seats_wrong points n) (Some Seats) _ right ∙ cond-true (leb (need n) x.room) None (Some Length) (le-leb (need n) x.room room)))
 
 module _ {R : Type 0} where
   length_filled : (xs : List (Option R)) (start count : ℕ) (o : Option R) → length (filled xs start count o) ≡ length xs
@@ -64,15 +56,6 @@ module _ {R : Type 0} where
             ∙ ap (λ b. cond b o (get_or xs k None)) still
       ]
 
-  -- a table that is filled with nothing
-  pub emptied : (xs : List (Option R)) (k : ℕ) → get_or (filled xs 0 (length xs) None) k None ≡ None
-  emptied xs k =
-      get_d_filled xs 0 (length xs) None (omega arith) k
-      ∙ elim (cases_lt k (length xs)) [
-        | inl inside ↦ let now : (leb 0 k && ltb k (0 + length xs)) ≡ true = grind (arith, nat_tests) in cond-true _ None (get_or xs k None) now
-        | inr past ↦ let then : (leb 0 k && ltb k (0 + length xs)) ≡ false = grind (arith, nat_tests) in cond-false _ None (get_or xs k None) then ∙ get_or_past xs k None past
-      ]
-
   square_filled : (t e f : Bool) (o x : Option R) → (t ≡ true → f ≡ e) → (t ≡ false → e ≡ false) → cond t (cond f o x) None ≡ cond e o (cond t x None)
   square_filled true e f o x is none = ap (λ b. cond b o x) (is refl)
   square_filled false e f o x is none = sym (cond-false e o None (none refl))
@@ -90,12 +73,14 @@ module _ {R : Type 0} where
       ∙ square_filled (seat n r && seat n s) (e r s) _ (Some w) (get_or xs (place r s) None) (is r s) (none r s))
       (length_filled xs start count (Some w))
 
-  -- an empty table
-  pub page_blank : (place : ℕ → ℕ → ℕ) (n room : ℕ) (xs : List (Option R)) → length xs ≡ room → ((k : ℕ) → get_or xs k None ≡ None) → table_page place n xs ≡ blank n room
-  page_blank place n room xs long none =
-      same_page refl
-      (λ r s. elim (cases_Bool (seat n r && seat n s)) [ inl t ↦ cond-true _ (get_or xs (place r s) None) None t ∙ none (place r s) | inr f ↦ cond-false _ (get_or xs (place r s) None) None f ])
-      long
+  -- a table is emptied for n seats
+  pub seats_taken : (points n m : ℕ) (need : ℕ → ℕ) (place : ℕ → ℕ → ℕ) (x : Page R) (xs ws : List (Option R)) {r : Result (Unit {0}) Refusal} {u : Unit {0}}
+      → ◌≡◌ {A = Result (Unit {0}) Refusal × List (Option R)} (r, ws) (outcome (cond (seats_wrong points n) (Some Seats) (cond (leb m (length xs)) None (Some Length))) xs (replicate (length xs) None))
+      → r ≡ Ok u
+      → m ≡ need n
+      → length xs ≡ x.room
+      → ◌≡◌ {A = Result (Unit {0}) Refusal × Page R} (Ok tt, table_page place n ws) (set_seats points need x n)
+  seats_taken points n m need place x xs ws done ok same room = grind (arith, common_steps)
 
   -- in the squares of the seats stand the places of the table
   page_at : (place : ℕ → ℕ → ℕ) (n : ℕ) (xs : List (Option R)) (r s : ℕ) → seat n r ≡ true → seat n s ≡ true → (table_page place n xs).at r s ≡ get_or xs (place r s) None

@@ -1,8 +1,18 @@
 -- The arithmetic of the places of squares in a table.
-use Rattle.std.proofs.Common.{◌≡◌, ℕ, zero, suc, pred, ◌+◌, ◌*◌, ◌<◌, ◌≤◌, true, false, ◌&&◌, eqb, ltb, leb, ap, inl, inr, mul-le-mul_right, suc-mul, arith}
+use Rattle.std.proofs.Common.{Bool, cond, Ok, Err, Result, sym, refl, ◌∙◌, ◌≡◌, ℕ, zero, suc, pred, ◌+◌, ◌*◌, ◌<◌, ◌≤◌, true, false, ◌&&◌, eqb, ltb, leb, ap, inl, inr, mul-le-mul_right, suc-mul, arith}
 use Rattle.std.proofs.lemmas.Bool.{cases_order}
 use Rattle.std.proofs.lemmas.Bool.Decides.{nat_tests}
+use Rattle.curve.specs.declared.refusal.Refusal.{Refusal}
+use Rattle.curve.specs.declared.refusal.Refusal.TheVariants.{Seat}
 use Rattle.exchange.specs.Sheet.{seat}
+
+-- what was not refused is a seat
+pub seated : (n k : ℕ) {r : Result (Unit {0}) Refusal} {u : Unit {0}} → r ≡ cond (seat n k) (Ok tt) (Err Seat) → r ≡ Ok u → seat n k ≡ true
+seated n k is ok = of (seat n k) (sym is ∙ ok)
+  where
+    of : (b : Bool) {u : Unit {0}} → ◌≡◌ {A = Result (Unit {0}) Refusal} (cond b (Ok tt) (Err Seat)) (Ok u) → b ≡ true
+    of true e = refl
+    of false e = cc
 
 -- no square outside the seats is a sender's, or the one of two seats
 pub outside_all : (n s p q : ℕ) → seat n s ≡ true → (seat n p && seat n q) ≡ false → (seat n p && eqb q s) ≡ false

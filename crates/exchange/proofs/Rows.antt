@@ -1,5 +1,5 @@
 -- Rows of words that a receiver sees.
-use Rattle.std.proofs.Common.{◌≡◌, ℕ, zero, suc, ◌+◌, ◌<◌, Bool, true, false, cond, ◌&&◌, eqb, List, [], ◌∷◌, map, length, is_some, Some, None, Ok, Err, Option, Result, sym, refl, ap, ◌∙◌, add-one, arith}
+use Rattle.std.proofs.Common.{◌≡◌, ℕ, zero, suc, ◌+◌, ◌<◌, ◌≤◌, Bool, true, false, cond, ◌&&◌, eqb, List, [], ◌∷◌, map, length, is_some, Some, None, Ok, Err, Option, Result, sym, refl, ap, ◌∙◌, add-one, arith}
 use Rattle.std.proofs.lemmas.Bool.{and_from, cond-true, eq-eqb, false≢true}
 use Rattle.curve.specs.Curve.{listed}
 use Rattle.curve.specs.declared.refusal.Refusal.{Refusal}
@@ -77,6 +77,11 @@ module _ {R : Type 0} where
     seen_lacks : (k : ℕ) (e : Refusal) → k < x.seats → Err e ≡ word_in (looked v x r (k + 1)) → (e ≡ Missing) × (seen v x r (suc k) ≡ None)
     seen_lacks k e lt is = word_lacks (seen v x r (suc k)) e (is ∙ ap word_in (looked_is k lt))
 
+    -- a seat whose word was seen
+    pub there_at : (k : ℕ) (w : R) → 0 < k → k ≤ x.seats → Ok w ≡ word_in (looked v x r k) → is_some (seen v x r k) ≡ true
+    there_at zero w low high e = let z : ⊥ = omega arith in absurd z
+    there_at (suc k) w low high e = ap is_some (seen_there k w (omega arith) (e ∙ ap (λ j. word_in (looked v x r j)) (sym (add-one k))))
+
     -- all words are there
     pub row_there : ((k : ℕ) → k < x.seats → is_some (seen v x r (suc k)) ≡ true) → Ok tt ≡ (gather (row_seen v x r) []).0
     row_there all = taken (row_seen v x r) (gathered_some x.seats (λ k. seen v x r (suc k)) all)
@@ -90,6 +95,10 @@ module _ {R : Type 0} where
     row_lacks k e lt is =
         let lack = seen_lacks k e lt is in
         ap Err lack.0 ∙ sym (ap (λ t. (gather t []).0) (gathered_none x.seats (λ j. seen v x r (suc j)) k lt lack.1))
+
+    pub lacks_at : (k : ℕ) (e : Refusal) → 0 < k → k ≤ x.seats → Err e ≡ word_in (looked v x r k) → Err e ≡ (gather (row_seen v x r) []).0
+    lacks_at zero e low high is = let z : ⊥ = omega arith in absurd z
+    lacks_at (suc k) e low high is = row_lacks k e (omega arith) (is ∙ ap (λ j. word_in (looked v x r j)) (sym (add-one k)))
 
     -- no word is missing where all are there
     pub never_lacks : (k : ℕ) (e : Refusal) → k < x.seats → Err e ≡ word_in (looked v x r (k + 1)) → Ok tt ≡ (gather (row_seen v x r) []).0 → ⊥

@@ -5,13 +5,15 @@ ghost use Rattle.exchange.specs.Tables.{board_page};
 ghost use Rattle.std.proofs.Common.{rules, arith};
 
 use crate::Exchange;
-use crate::table::{clear, count_empty, is_seat, place, seats_wrong};
+use crate::table::{clear_for, count_empty, place, test_seat};
 use curve::refusal::Refusal;
 use ring::Ring;
 
-#[derive(Drop)]
+// Not one type with the lines, which place, read and count words otherwise: what the two share is the functions of tables.
+#[derive(Debug, Drop)]
 pub struct Board<R> {
     seats: usize,
+    // By a rule of the project the caller's, so it may have more places than the seats need.
     table: Vec<Option<R>>,
     ghost few: { seats ≤ 31 },
     ghost room: { seats ≤ vec_len table },
@@ -50,23 +52,19 @@ impl<R: Ring> Exchange<R> for Board<R> {
     }
 
     fn place_for_all(&mut self, sender: usize, word: R) -> Result<(), Refusal> {
-        if !is_seat(self.seats, sender) {
-            return Err(Refusal::Seat);
-        }
+        test_seat(self.seats, sender)?;
         place(&mut self.table, sender - 1, 1, word)
     }
 
     fn place_for_one(&mut self, sender: usize, receiver: usize, _word: R) -> Result<(), Refusal> {
-        if !is_seat(self.seats, sender) || !is_seat(self.seats, receiver) {
-            return Err(Refusal::Seat);
-        }
+        test_seat(self.seats, sender)?;
+        test_seat(self.seats, receiver)?;
         Err(Refusal::Common)
     }
 
     fn look(&self, receiver: usize, sender: usize) -> Result<Option<R>, Refusal> {
-        if !is_seat(self.seats, receiver) || !is_seat(self.seats, sender) {
-            return Err(Refusal::Seat);
-        }
+        test_seat(self.seats, receiver)?;
+        test_seat(self.seats, sender)?;
         Ok(self.table[sender - 1])
     }
 
@@ -75,17 +73,11 @@ impl<R: Ring> Exchange<R> for Board<R> {
     }
 
     fn turn(&mut self) {
-        clear(&mut self.table);
+        self.table.fill(None);
     }
 
     fn set_seats(&mut self, n: usize) -> Result<(), Refusal> {
-        if seats_wrong::<R>(n) {
-            return Err(Refusal::Seats);
-        }
-        if n > self.table.len() {
-            return Err(Refusal::Length);
-        }
-        clear(&mut self.table);
+        clear_for(&mut self.table, n, n)?;
         self.seats = n;
         Ok(())
     }

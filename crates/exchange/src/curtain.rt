@@ -6,7 +6,7 @@ use curve::refusal::Refusal;
 use ring::Ring;
 
 // Veils an exchange: no word is seen until every square is filled.
-#[derive(Drop)]
+#[derive(Debug, Drop)]
 pub struct Curtain<X> {
     behind: X,
 }

@@ -6,7 +6,7 @@ ghost use Rattle.exchange.specs.Sheet.{Page, Proper, seat, place_all, place_one,
 
 use curve::refusal::Refusal;
 use ring::Ring;
-use table::is_seat;
+use table::test_seat;
 
 pub mod board;
 pub mod curtain;
@@ -71,10 +71,7 @@ fn word_seen<R: Ring, X: Exchange<R>>(
 ) -> Result<R, Refusal>
     ensures { result ≡ word_in (looked X.Exchange.veiled (X.Exchange.page exchange.now) receiver sender) }
 {
-    match exchange.look(receiver, sender)? {
-        Some(word) => Ok(word),
-        None => Err(Refusal::Missing),
-    }
+    exchange.look(receiver, sender)?.ok_or(Refusal::Missing)
 }
 
 // Whether a seat sees a word of every seat.
@@ -82,8 +79,8 @@ fn test_row<R: Ring, X: Exchange<R>>(exchange: &X, receiver: usize) -> Result<()
     requires { seat (X.Exchange.page exchange.now).seats receiver ≡ true }
     ensures { result ≡ (gather (row_seen X.Exchange.veiled (X.Exchange.page exchange.now) receiver) []).0 }
 {
-    for k in 0..exchange.seats() {
-        word_seen(exchange, receiver, k + 1)?;
+    for k in 1..=exchange.seats() {
+        word_seen(exchange, receiver, k)?;
     }
     Ok(())
 }
@@ -100,12 +97,10 @@ pub fn collect_row<R: Ring, X: Exchange<R>>(
     if row.len() != n {
         return Err(Refusal::Length);
     }
-    if !is_seat(n, receiver) {
-        return Err(Refusal::Seat);
-    }
+    test_seat(n, receiver)?;
     test_row(exchange, receiver)?;
-    for k in 0..n {
-        row[k] = word_seen(exchange, receiver, k + 1)?;
+    for (k, place) in row.iter_mut().enumerate() {
+        *place = word_seen(exchange, receiver, k + 1)?;
     }
     Ok(())
 }

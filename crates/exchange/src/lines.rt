@@ -5,13 +5,14 @@ ghost use Rattle.exchange.specs.Tables.{lines_page};
 ghost use Rattle.std.proofs.Common.{rules, arith};
 
 use crate::Exchange;
-use crate::table::{clear, count_empty, is_seat, place, seats_wrong};
+use crate::table::{clear_for, count_empty, place, test_seat};
 use curve::refusal::Refusal;
 use ring::Ring;
 
-#[derive(Drop)]
+#[derive(Debug, Drop)]
 pub struct Lines<R> {
     seats: usize,
+    // By a rule of the project the caller's, so it may have more places than the seats need.
     table: Vec<Option<R>>,
     ghost few: { seats ≤ 31 },
     ghost room: { seats * seats ≤ vec_len table },
@@ -61,25 +62,21 @@ impl<R: Ring> Exchange<R> for Lines<R> {
     }
 
     fn place_for_all(&mut self, sender: usize, word: R) -> Result<(), Refusal> {
-        if !is_seat(self.seats, sender) {
-            return Err(Refusal::Seat);
-        }
+        test_seat(self.seats, sender)?;
         let start = place_of(self.seats, 1, sender);
         place(&mut self.table, start, self.seats, word)
     }
 
     fn place_for_one(&mut self, sender: usize, receiver: usize, word: R) -> Result<(), Refusal> {
-        if !is_seat(self.seats, sender) || !is_seat(self.seats, receiver) {
-            return Err(Refusal::Seat);
-        }
+        test_seat(self.seats, sender)?;
+        test_seat(self.seats, receiver)?;
         let start = place_of(self.seats, receiver, sender);
         place(&mut self.table, start, 1, word)
     }
 
     fn look(&self, receiver: usize, sender: usize) -> Result<Option<R>, Refusal> {
-        if !is_seat(self.seats, receiver) || !is_seat(self.seats, sender) {
-            return Err(Refusal::Seat);
-        }
+        test_seat(self.seats, receiver)?;
+        test_seat(self.seats, sender)?;
         Ok(self.table[place_of(self.seats, receiver, sender)])
     }
 
@@ -88,17 +85,12 @@ impl<R: Ring> Exchange<R> for Lines<R> {
     }
 
     fn turn(&mut self) {
-        clear(&mut self.table);
+        self.table.fill(None);
     }
 
     fn set_seats(&mut self, n: usize) -> Result<(), Refusal> {
-        if seats_wrong::<R>(n) {
-            return Err(Refusal::Seats);
-        }
-        if n * n > self.table.len() {
-            return Err(Refusal::Length);
-        }
-        clear(&mut self.table);
+        // n * n may not fit before the test of n.
+        clear_for(&mut self.table, n, n.saturating_mul(n))?;
         self.seats = n;
         Ok(())
     }

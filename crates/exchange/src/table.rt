@@ -1,38 +1,22 @@
 // Tables of words, of which an exchange uses a part.
-ghost use Rattle.std.specs.Prelude.{◌≡◌, ℕ, ◌+◌, ◌≤◌, length, if◌then◌else◌, Some, None, slice_index_or};
+ghost use Rattle.std.specs.Prelude.{◌≡◌, ℕ, ◌+◌, ◌≤◌, length, replicate, nat_le, if◌then◌else◌, Some, None, Ok, Err};
+ghost use Rattle.curve.specs.declared.refusal.Refusal.TheVariants.{Length, Placed, Seat, Seats};
 ghost use Rattle.curve.specs.Curve.{seats_wrong};
-ghost use Rattle.curve.specs.declared.refusal.Refusal.TheVariants.{Placed};
 ghost use Rattle.exchange.specs.Sheet.{seat, outcome};
 ghost use Rattle.exchange.specs.Tables.{held, empties, filled};
 
 use curve::refusal::Refusal;
+use curve::test_seats;
 use ring::Ring;
 
-// Whether k is one of n seats.
-pub(crate) fn is_seat(n: usize, k: usize) -> bool
-    ensures { result ≡ seat n k }
+// Refuses what is not one of n seats.
+pub(crate) fn test_seat(n: usize, k: usize) -> Result<(), Refusal>
+    ensures { result ≡ (if seat n k then Ok tt else Err Seat) }
 {
-    0 < k && k <= n
-}
-
-// Whether there cannot be n seats over this ring.
-pub(crate) fn seats_wrong<R: Ring>(n: usize) -> bool
-    ensures { result ≡ seats_wrong R.Ring.points.count n }
-{
-    n == 0 || n > 31 || n >= R::point_count()
-}
-
-// Whether one of the places from `start` on is filled.
-fn is_held<R: Copy>(table: &[Option<R>], start: usize, count: usize) -> bool
-    requires { start + count ≤ length table.now }
-    ensures { result ≡ held table.now start count }
-{
-    for k in 0..count {
-        if table[start + k].is_some() {
-            return true;
-        }
+    if !(1..=n).contains(&k) {
+        return Err(Refusal::Seat);
     }
-    false
+    Ok(())
 }
 
 // How many of the first places are empty.
@@ -41,31 +25,7 @@ pub(crate) fn count_empty<R: Copy>(table: &[Option<R>], count: usize) -> usize
     ensures sum { result ≡ empties table.now count }
     ensures few { result ≤ count }
 {
-    let mut sum = 0;
-    for k in 0..count {
-        if table[k].is_none() {
-            sum += 1;
-        }
-    }
-    sum
-}
-
-// Writes one value at the places from `start` on.
-fn fill<R: Copy>(table: &mut [Option<R>], start: usize, count: usize, value: Option<R>)
-    requires { start + count ≤ length table.old }
-    ensures { table.new ≡ filled table.old start count value }
-{
-    for k in 0..count {
-        table[start + k] = value;
-    }
-}
-
-// Empties all places.
-pub(crate) fn clear<R: Copy>(table: &mut [Option<R>])
-    ensures { (k : ℕ) → slice_index_or table.new k None ≡ None }
-{
-    let count = table.len();
-    fill(table, 0, count, None);
+    table[..count].iter().filter(|o| o.is_none()).count()
 }
 
 // Writes a word at the places from `start` on, all of which are to be empty.
@@ -78,9 +38,29 @@ pub(crate) fn place<R: Copy>(
     requires { start + count ≤ length table.old }
     ensures { (result, table.new) ≡ outcome (if held table.old start count then Some Placed else None) table.old (filled table.old start count (Some word)) }
 {
-    if is_held(table, start, count) {
+    let squares = &mut table[start..start + count];
+    if squares.iter().any(Option::is_some) {
         return Err(Refusal::Placed);
     }
-    fill(table, start, count, Some(word));
+    // Not `fill`, which asks that a clone of the word cannot fail.
+    for square in squares {
+        *square = Some(word);
+    }
+    Ok(())
+}
+
+// Empties a table for n seats, which need so many of its places.
+pub(crate) fn clear_for<R: Ring>(
+    table: &mut [Option<R>],
+    n: usize,
+    need: usize,
+) -> Result<(), Refusal>
+    ensures { (result, table.new) ≡ outcome (if seats_wrong R.Ring.points.count n then Some Seats else if nat_le need (length table.old) then None else Some Length) table.old (replicate (length table.old) None) }
+{
+    test_seats::<R>(n)?;
+    if need > table.len() {
+        return Err(Refusal::Length);
+    }
+    table.fill(None);
     Ok(())
 }

@@ -3,3 +3,4 @@ pub mod Working
 pub mod Straying
 pub mod Opening
 pub mod Making
+pub mod Taking

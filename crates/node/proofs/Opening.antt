@@ -3,8 +3,7 @@ use Rattle.std.proofs.Common.{◌≡◌, ℕ, ◌+◌, ◌*◌, ◌<◌, ◌≤�
 use Rattle.std.proofs.lemmas.Bool.Decides.{nat_tests}
 use Rattle.std.proofs.lemmas.Bool.{cases_lt, le-leb, lt-ltb}
 use Rattle.curve.specs.Curve.{seats_wrong, curve_refused, Opens, Answers, Opened, OpenedBy}
-use Rattle.curve.specs.declared.Opening.{Opening as RowOpening}
-use Rattle.curve.specs.declared.Opening.TheVariants.{Value}
+use Rattle.curve.specs.declared.OffCurve.{OffCurve}
 use Rattle.curve.specs.declared.refusal.Refusal.{Refusal}
 use Rattle.curve.specs.declared.refusal.Refusal.TheVariants.{Seats, Threshold}
 use Rattle.curve.proofs.Theory.{degree_below}
@@ -69,11 +68,11 @@ comes G layouts t row (Output g n) v (Err (Lanes h c)) opens (at, strays) = (at,
 
 module _ {R C : Type 0} (G : Ghosts R C) (layouts : List Layout) (t : ℕ) (row : List R) (o : Opening) where
   -- a row that is answered was not refused
-  answered : (d : ℕ) (x : Option Refusal) (r : RowOpening R) → OpenedBy G d row (Ok r) x → (x ≡ None) × Answers G d row r
+  answered : (d : ℕ) (x : Option Refusal) (r : Result R OffCurve) → OpenedBy G d row (Ok r) x → (x ≡ None) × Answers G d row r
   answered d None r h = (refl, h)
   answered d (Some e) r h = let z : ◌≡◌ {A = ℕ} 0 1 = cc in let f : ⊥ = omega arith in absurd f
 
-  pub value_opened : (d k : ℕ) → ((x : ℕ) → degree_of x o ≡ k * x) → d ≡ min (k * t) 18446744073709551615 → (r : RowOpening R) (v : R) → r ≡ Value v → Opened G d row (Ok r)
+  pub value_opened : (d k : ℕ) → ((x : ℕ) → degree_of x o ≡ k * x) → d ≡ min (k * t) 18446744073709551615 → (r : Result R OffCurve) (v : R) → r ≡ Ok v → Opened G d row (Ok r)
       → (a : Result R Fault) → ValueComesTo G layouts o v a → OpenedAt G layouts t row o (Ok a) (curve_refused G.points.count (length row) (degree_of t o))
   value_opened d k times ed r v er opened a ca =
       let alike = cut d k t ed in

@@ -1,5 +1,5 @@
 -- Gates worked out one after another.
-use Rattle.std.proofs.Common.{◌≡◌, ℕ, suc, ◌+◌, ◌-◌, ◌<◌, ◌≤◌, List, get_or, set, sym, refl, ap, ◌∙◌, ap₂, add-one, arith}
+use Rattle.std.proofs.Common.{◌≡◌, ℕ, suc, ◌+◌, ◌-◌, ◌<◌, List, get_or, set, sym, ap, ◌∙◌, ap₂, add-one, arith}
 use Rattle.algebra.specs.Ring.{CommRing}
 use Rattle.encoding.specs.declared.layout.Layout.{Layout}
 use Rattle.circuit.specs.Codes.{Parts as Fields, parts_of}
@@ -24,9 +24,6 @@ module _ {E : Type 0} (R : CommRing E) (C : Known E) (codes : List ℕ) (layouts
   pub record Left (W : List E) (from to : ℕ) (V : List E) (g : ℕ) : Type 0 where
     pub is : settled R C codes layouts input W from (to - from) ≡ settled R C codes layouts input V g (to - g)
 
-  pub left_all : (W : List E) (from to : ℕ) → Left W from to W from
-  left_all W from to = record { is = refl }
-
   pub left_less : {W V : List E} {from to g : ℕ} → Left W from to V g → g < to → (z y : E) → z ≡ R.𝟎 → y ≡ R.𝟎 → (V' : List E) → V' ≡ worked R C codes layouts input V g z y → Left W from to V' (g + 1)
   left_less {W} {V} {from} {to} {g} left h z y ez ey V' ev =
       let down : to - g ≡ suc (to - (g + 1)) = omega arith in
@@ -36,6 +33,3 @@ module _ {E : Type 0} (R : CommRing E) (C : Known E) (codes : List ℕ) (layouts
             ∙ ap (settled R C codes layouts input V g) down
             ∙ ap₂ (λ k X. settled R C codes layouts input X k (to - (g + 1))) (sym (add-one g)) (sym (ev ∙ ap₂ (worked R C codes layouts input V g) ez ey));
       }
-
-  pub left_none : {W V : List E} {from to g : ℕ} → Left W from to V g → to ≤ g → V ≡ settled R C codes layouts input W from (to - from)
-  left_none {W} {V} {from} {to} {g} left h = sym (left.is ∙ ap (settled R C codes layouts input V g) (let none : to - g ≡ 0 = omega arith in none))

@@ -12,6 +12,7 @@ use Rattle.circuit.specs.Openings.{products}
 use Rattle.circuit.specs.declared.openings.Opening.{Opening}
 use Rattle.rules.specs.Elements.{known}
 use Rattle.node.specs.Seats.{Keeps, keeps, opening_or_refused, TakesBy}
+use Rattle.node.specs.Tables.{Tables}
 use Rattle.node.specs.Work.{stage, settled, shown}
 use Rattle.node.specs.declared.fault.Fault.{Fault}
 
@@ -35,8 +36,8 @@ pub record Lengths : Type 0 where
   pub low : ℕ
   pub work : ℕ
 
-abbrev pub lengths : {R : Type 0} → List ℕ → List R → List R → List R → List R → Lengths
-lengths constants inputs high low work = record { constants = length constants; inputs = length inputs; high = length high; low = length low; work = length work }
+abbrev pub lengths : {R : Type 0} → Tables R → List R → Lengths
+lengths l work = record { constants = length l.constants; inputs = length l.inputs; high = length l.high; low = length l.low; work = length work }
 
 -- one high and one low part for each product, and one entry for each gate
 abbrev pub pairs_fit : List ℕ → Lengths → Bool
@@ -52,8 +53,8 @@ making_refused points n t k codes l =
     cond (seats_wrong points n) (Some Seats) (cond (nat_le n (3 * t)) (Some Threshold) (cond (is_seat n k) (cond (pairs_fit codes l) None (Some Length)) (Some Seat)))
 
 -- the opening that a node is at, or why there is none: a table of another length than at making, stopped, or done
-abbrev pub node_opening : {R : Type 0} → State R → Lengths → Result Opening Refusal
-node_opening x l = cond (fitting x.plan l) (opening_or_refused x.plan.codes x.keeps) (Err Length)
+abbrev pub node_opening : {R : Type 0} → State R → Tables R → List R → Result Opening Refusal
+node_opening x l W = cond (fitting x.plan (lengths l W)) (opening_or_refused x.plan.codes x.keeps) (Err Length)
 
 -- the same node, keeping something else
 abbrev pub keeping : {R : Type 0} → State R → Keeps R → State R
@@ -61,15 +62,18 @@ keeping x k = record { seats = x.seats; threshold = x.threshold; number = x.numb
 
 module _ {R C : Type 0} (G : Ghosts R C) (method : ℕ → Enc) where
   -- the word that a node shows at an opening
-  abbrev pub own_word : State R → List R → List R → Opening → El G
-  own_word x high W o = shown (K G) x.plan.codes (map G.element W) o (map G.element high)
+  abbrev pub own_word : State R → Tables R → List R → Opening → El G
+  own_word x l W o = shown (K G) x.plan.codes (map G.element W) o (map G.element l.high)
 
   -- what posting answers: the word, or why there is none
-  abbrev pub Posts : State R → List R → List R → Result R Refusal → Result Opening Refusal → Type 0
-  Posts x high W (Ok v) (Ok o) = G.element v ≡ own_word x high W o
-  Posts x high W (Ok v) (Err f) = ⊥
-  Posts x high W (Err e) (Ok o) = ⊥
-  Posts x high W (Err e) (Err f) = e ≡ f
+  abbrev pub PostsAt : State R → Tables R → List R → Result R Refusal → Result Opening Refusal → Type 0
+  PostsAt x l W (Ok v) (Ok o) = G.element v ≡ own_word x l W o
+  PostsAt x l W (Ok v) (Err f) = ⊥
+  PostsAt x l W (Err e) (Ok o) = ⊥
+  PostsAt x l W (Err e) (Err f) = e ≡ f
+
+  abbrev pub Posts : State R → Tables R → List R → Result R Refusal → Type 0
+  Posts x l W r = PostsAt x l W r (node_opening x l W)
 
   -- a refusal, and nothing changed
   abbrev pub NotTaken : State R → List R → Refusal → Result (Option Fault) Refusal → State R → List R → Type 0
@@ -77,35 +81,38 @@ module _ {R C : Type 0} (G : Ghosts R C) (method : ℕ → Enc) where
 
   -- What taking a row does: length if the row has not one word for each seat; own if its own word is not the one it shows; else
   -- what the row makes of its seat.
-  module _ (constants : List ℕ) (inputs high low row : List R) (x : State R) (W : List R) (r : Result (Option Fault) Refusal) (x' : State R) (W' : List R) where
+  module _ (l : Tables R) (row : List R) (x : State R) (W : List R) (r : Result (Option Fault) Refusal) (x' : State R) (W' : List R) where
     abbrev pub TakesOwn : Opening → Type 0
     TakesOwn o =
-        ((word_at G row (x.number - 1) ≡ own_word x high W o)
-        × TakesBy G method x.plan.codes x.plan.layouts x.threshold constants inputs low row x.keeps W r x'.keeps W' (Ok o)
+        ((word_at G row (x.number - 1) ≡ own_word x l W o)
+        × TakesBy G method x.plan x.threshold l row x.keeps W r x'.keeps W' (Ok o)
         × (x' ≡ keeping x x'.keeps))
-        ⊎ ((word_at G row (x.number - 1) ≢ own_word x high W o) × NotTaken x W Own r x' W')
+        ⊎ ((word_at G row (x.number - 1) ≢ own_word x l W o) × NotTaken x W Own r x' W')
 
     abbrev pub TakesRow : Opening → Bool → Type 0
     TakesRow o true = TakesOwn o
     TakesRow o false = NotTaken x W Length r x' W'
 
-    abbrev pub Takes : Result Opening Refusal → Type 0
-    Takes (Ok o) = TakesRow o (length row == x.seats)
-    Takes (Err e) = NotTaken x W e r x' W'
+    abbrev pub TakesAt : Result Opening Refusal → Type 0
+    TakesAt (Ok o) = TakesRow o (length row == x.seats)
+    TakesAt (Err e) = NotTaken x W e r x' W'
+
+    abbrev pub Takes : Type 0
+    Takes = TakesAt (node_opening x l W)
 
   -- the node that is made and its work table: the gates before the first opening worked out over zeros
-  pub record Made (n t k : ℕ) (codes constants : List ℕ) (inputs high low before : List R) (x : State R) (after : List R) : Type 0 where
-    pub taken : making_refused G.points.count n t k codes (lengths constants inputs high low before) ≡ None
+  pub record Made (n t k : ℕ) (codes : List ℕ) (l : Tables R) (before : List R) (x : State R) (after : List R) : Type 0 where
+    pub taken : making_refused G.points.count n t k codes (lengths l before) ≡ None
     pub seats : x.seats ≡ n
     pub threshold : x.threshold ≡ t
     pub number : x.number ≡ k
-    pub planned : circuit_of (setting (degree G.shape) (length inputs) (length constants) method) codes ≡ Ok x.plan
+    pub planned : circuit_of (setting (degree G.shape) (length l.inputs) (length l.constants) method) codes ≡ Ok x.plan
     pub keeps : x.keeps ≡ keeps [] (length x.plan.openings) None
     pub worked : map G.element after
-        ≡ settled (K G) (known G.shape method constants) codes x.plan.layouts (word_at G inputs) (replicate (length codes) (K G).𝟎) 0 (stage codes 0)
+        ≡ settled (K G) (known G.shape method l.constants) codes x.plan.layouts (word_at G l.inputs) (replicate (length codes) (K G).𝟎) 0 (stage codes 0)
 
   -- why making is refused, and the work table as it was
-  pub record NotMade (n t k : ℕ) (codes constants : List ℕ) (inputs high low before : List R) (e : Refusal) (after : List R) : Type 0 where
-    pub why : (making_refused G.points.count n t k codes (lengths constants inputs high low before) ≡ Some e)
-        ⊎ ((making_refused G.points.count n t k codes (lengths constants inputs high low before) ≡ None) × Refused (setting (degree G.shape) (length inputs) (length constants) method) codes e)
+  pub record NotMade (n t k : ℕ) (codes : List ℕ) (l : Tables R) (before : List R) (e : Refusal) (after : List R) : Type 0 where
+    pub why : (making_refused G.points.count n t k codes (lengths l before) ≡ Some e)
+        ⊎ ((making_refused G.points.count n t k codes (lengths l before) ≡ None) × Refused (setting (degree G.shape) (length l.inputs) (length l.constants) method) codes e)
     pub same : after ≡ before

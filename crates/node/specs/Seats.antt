@@ -1,16 +1,16 @@
 -- One seat: what it has opened, why it has stopped, and what a row makes of it.
 use Rattle.std.specs.Prelude.{◌≡◌, ℕ, zero, suc, cond, List, [], ◌∷◌, ◌++◌, map, length, Some, None, Ok, Err, Option, Result, nat_lt}
-use Rattle.curve.specs.Curve.{K, curve_refused, word as word_at}
+use Rattle.curve.specs.Curve.{curve_refused}
 use Rattle.curve.specs.declared.refusal.Refusal.{Refusal}
 use Rattle.curve.specs.declared.refusal.Refusal.TheVariants.{Halted, Done}
 use Rattle.ring.specs.declared.Ring.{Ghosts}
 use Rattle.encoding.specs.Encodings.{Enc}
-use Rattle.encoding.specs.declared.layout.Layout.{Layout}
+use Rattle.circuit.specs.Circuits.{Plan}
 use Rattle.circuit.specs.Openings.{openings_of, degree_of}
 use Rattle.circuit.specs.declared.openings.Opening.{Opening}
-use Rattle.rules.specs.Elements.{known}
 use Rattle.node.specs.Openings.{ComesTo}
-use Rattle.node.specs.Work.{stage, kept}
+use Rattle.node.specs.Tables.{Tables}
+use Rattle.node.specs.Work.{stage, value_kept}
 use Rattle.node.specs.declared.fault.Fault.{Fault}
 
 -- what a seat keeps between calls: the values it has opened, with room for so many in all, and its fault if it has stopped
@@ -36,17 +36,17 @@ present codes s = cond (nat_lt (length s.opened) s.room) (numbered (openings_of 
 abbrev pub opening_or_refused : {R : Type 0} → List ℕ → Keeps R → Result Opening Refusal
 opening_or_refused codes s = elim s.fault [ Some f ↦ Err Halted | None ↦ elim (present codes s) [ None ↦ Err Done | Some o ↦ Ok o ] ]
 
-module _ {R C : Type 0} (G : Ghosts R C) (method : ℕ → Enc) (codes : List ℕ) (layouts : List Layout) (t : ℕ) (constants : List ℕ) (inputs lows : List R) (row : List R) where
+module _ {R C : Type 0} (G : Ghosts R C) (method : ℕ → Enc) (p : Plan) (t : ℕ) (l : Tables R) (row : List R) where
   -- the seat and its work table after a row came to a value, which is kept with all gates up to the next opening's, or to a fault
   abbrev pub After : Opening → Keeps R → List R → Result R Fault → Result (Option Fault) Refusal → Keeps R → List R → Type 0
   After o s W (Ok v) r s' W' =
       (r ≡ Ok None) × (s' ≡ keeps (s.opened ++ (v ∷ [])) s.room s.fault)
-      × (map G.element W' ≡ kept (K G) (known G.shape method constants) codes layouts (word_at G inputs) (map G.element W) o (map G.element lows) (G.element v) (stage codes (suc (length s.opened))))
+      × (map G.element W' ≡ value_kept G method p l W o (G.element v) (stage p.codes (suc (length s.opened))))
   After o s W (Err f) r s' W' = (r ≡ Ok (Some f)) × (s' ≡ keeps s.opened s.room (Some f)) × (W' ≡ W)
 
   -- what a row makes of a seat at an opening, unless its length or the degree is refused
   abbrev pub TakesAt : Opening → Keeps R → List R → Result (Option Fault) Refusal → Keeps R → List R → Option Refusal → Type 0
-  TakesAt o s W r s' W' None = (a : Result R Fault) × ComesTo G layouts t row o a × After o s W a r s' W'
+  TakesAt o s W r s' W' None = (a : Result R Fault) × ComesTo G p.layouts t row o a × After o s W a r s' W'
   TakesAt o s W r s' W' (Some e) = (r ≡ Err e) × (s' ≡ s) × (W' ≡ W)
 
   abbrev pub TakesBy : Keeps R → List R → Result (Option Fault) Refusal → Keeps R → List R → Result Opening Refusal → Type 0

@@ -1,14 +1,19 @@
 -- A seat's work table, one entry for each gate, as it is worked out gate by gate.
 use Rattle.std.specs.Prelude.{ℕ, zero, suc, ◌-◌, List, map, length, get_or, slice_index_or, slice_set}
 use Rattle.algebra.specs.Ring.{CommRing}
+use Rattle.curve.specs.Curve.{El, K, word as word_at}
+use Rattle.ring.specs.declared.Ring.{Ghosts}
+use Rattle.encoding.specs.Encodings.{Enc}
 use Rattle.encoding.specs.declared.layout.Layout.{Layout}
+use Rattle.circuit.specs.Circuits.{Plan}
 use Rattle.circuit.specs.Gates.{layout_at}
 use Rattle.circuit.specs.Kinds.{gate_at}
 use Rattle.circuit.specs.Openings.{openings_of, gate_opened}
 use Rattle.circuit.specs.declared.openings.Opening.{Opening}
 use Rattle.circuit.specs.declared.openings.Opening.TheVariants.{Product, Output}
-use Rattle.rules.specs.Elements.{parts}
+use Rattle.rules.specs.Elements.{known, parts}
 use Rattle.rules.specs.Rules.{Known, word, after}
+use Rattle.node.specs.Tables.{Tables}
 
 -- the gate of opening number k, or the number of gates where there is none
 abbrev pub stage : List ℕ → ℕ → ℕ
@@ -40,3 +45,14 @@ module _ {E : Type 0} (R : CommRing E) (C : Known E) (codes : List ℕ) (layouts
 -- the word that is shown at an opening
 abbrev pub shown : {E : Type 0} → CommRing E → List ℕ → List E → Opening → List E → E
 shown R codes W o highs = word R (parts (λ i. R.𝟎) (part_of R.𝟎 highs o) R.𝟎) 0 (λ a. get_or W a R.𝟎) (gate_at codes (gate_opened o))
+
+-- The same over the tables that are lent, for a list of gates.
+module _ {R C : Type 0} (G : Ghosts R C) (method : ℕ → Enc) (p : Plan) (l : Tables R) (W : List R) where
+  abbrev pub gate_worked : ℕ → El G → El G → List (El G)
+  gate_worked = worked (K G) (known G.shape method l.constants) p.codes p.layouts (word_at G l.inputs) (map G.element W)
+
+  abbrev pub gates_settled : ℕ → ℕ → List (El G)
+  gates_settled = settled (K G) (known G.shape method l.constants) p.codes p.layouts (word_at G l.inputs) (map G.element W)
+
+  abbrev pub value_kept : Opening → El G → ℕ → List (El G)
+  value_kept o = kept (K G) (known G.shape method l.constants) p.codes p.layouts (word_at G l.inputs) (map G.element W) o (map G.element l.low)

@@ -1,26 +1,30 @@
 // Why a seat stopped.
-ghost use Rattle.std.specs.Prelude.{◌≡◌};
-ghost use Rattle.node.specs.Faults.{number_of, gate_of, place_of};
+ghost use Rattle.std.specs.Prelude.{◌≡◌, Some};
+ghost use Rattle.node.specs.Faults.{number_of, gate_of, place_of, text_of};
+
+use std::error::Error;
+use std::fmt;
+
+// The number of the fault of a row that does not open.
+pub const OFF_CURVE: u8 = 41;
 
 // A row that does not open, with the gate of its opening and the seat that is off the polynomial; or an output's value that is
 // not zero off its layout, with its gate and the coordinate.
-#[derive(Clone, Copy, PartialEq, Eq)]
+#[derive(Clone, Copy, Debug, PartialEq, Eq, Hash)]
 pub enum Fault {
     Row { gate: usize, seat: usize },
     Lanes { gate: usize, coordinate: usize },
 }
 
+// Three numbers of one fault: a conversion to a number could give one alone.
 impl Fault {
     // The number in the rules' table.
     pub fn number(self) -> u8
         ensures { result ≡ number_of self }
     {
         match self {
-            Fault::Row { gate: _, seat: _ } => 41,
-            Fault::Lanes {
-                gate: _,
-                coordinate: _,
-            } => 42,
+            Fault::Row { .. } => OFF_CURVE,
+            Fault::Lanes { .. } => 42,
         }
     }
 
@@ -28,11 +32,7 @@ impl Fault {
         ensures { result ≡ gate_of self }
     {
         match self {
-            Fault::Row { gate, seat: _ } => gate,
-            Fault::Lanes {
-                gate,
-                coordinate: _,
-            } => gate,
+            Fault::Row { gate, .. } | Fault::Lanes { gate, .. } => gate,
         }
     }
 
@@ -41,11 +41,19 @@ impl Fault {
         ensures { result ≡ place_of self }
     {
         match self {
-            Fault::Row { gate: _, seat } => seat,
-            Fault::Lanes {
-                gate: _,
-                coordinate,
-            } => coordinate,
+            Fault::Row { seat, .. } => seat,
+            Fault::Lanes { coordinate, .. } => coordinate,
         }
     }
 }
+
+impl fmt::Display for Fault {
+    ghost output = { λ f. Some (text_of f) };
+
+    fn fmt<W: fmt::Write>(&self, f: &mut fmt::Formatter<W>) -> fmt::Result {
+        let (number, gate, place) = (self.number(), self.gate(), self.place());
+        write!(f, "fault {number} gate {gate} place {place}")
+    }
+}
+
+impl Error for Fault {}

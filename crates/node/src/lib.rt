@@ -2,21 +2,21 @@
 #![tactic(auto)]
 
 ghost use Rattle.std.specs.Prelude.{◌≡◌, ℕ, ◌-◌, map, length, replicate, MatchResult};
-ghost use Rattle.circuit.specs.Circuits.{plan};
 ghost use Rattle.curve.specs.Curve.{K, tested, word as word_at};
 ghost use Rattle.node.specs.Nodes.{lengths, fitting, making_refused, node_opening, Posts, Takes, Made, NotMade};
-ghost use Rattle.node.specs.States.{state_of};
+ghost use Rattle.node.specs.Tables.{tables};
 
-use circuit::checked::Circuit;
+use circuit::checked::{Circuit, Limits};
 use circuit::openings::{Opening, count_products};
 use curve::refusal::Refusal;
+use curve::test_seats;
 use encoding::methods::Methods;
 use fault::Fault;
 use ring::Ring;
 use rules::gates::entry_at;
 use seat::Seat;
 use std::alloc::Global;
-use std::marker::PhantomData;
+use std::marker::{Model, PhantomData};
 use work::{settle, shown_word, stage};
 
 pub mod fault;
@@ -24,8 +24,9 @@ pub mod openings;
 pub mod seat;
 pub mod work;
 
-// The tables that a node is lent at a call: the constants, and its parts of the inputs and of the pairs.
-#[derive(Clone, Copy)]
+// The tables that a node is lent at a call: the constants, and its parts of the inputs and of the pairs. By the rules the high
+// and the low parts are two tables.
+#[derive(Clone, Copy, Debug)]
 pub struct Lent<'a, R> {
     pub constants: &'a [u64],
     pub inputs: &'a [R],
@@ -44,16 +45,24 @@ pub struct Node<R, M> {
     methods: PhantomData<M>,
 }
 
+impl<R, M> Model for Node<R, M> {
+    ghost use Rattle.node.specs.Nodes.{State};
+
+    ghost Value = { State R };
+
+    ghost view = { λ n. record { seats = n.seats; threshold = n.threshold; number = n.number; plan = n.circuit; keeps = n.seat } };
+}
+
 // Whether tables of these lengths fit a list.
 fn fit<R: Ring>(lent: Lent<'_, R>, circuit: &Circuit, work: &[R]) -> bool
-    ensures { result ≡ fitting (plan circuit.now.codes.items circuit.now.layouts.items circuit.now.openings.items circuit.now.inputs circuit.now.constants) (lengths lent.entry.constants.now lent.entry.inputs.now lent.entry.high.now lent.entry.low.now work.now) }
+    ensures { result ≡ fitting circuit.now (lengths (tables lent.entry) work.now) }
 {
     let pairs = circuit.pairs();
-    (lent.constants.len() == circuit.constants())
-        & (lent.inputs.len() == circuit.inputs())
-        & ((lent.high.len() == pairs)
-            & (lent.low.len() == pairs)
-            & (work.len() == circuit.codes().len()))
+    lent.constants.len() == circuit.constants()
+        && lent.inputs.len() == circuit.inputs()
+        && lent.high.len() == pairs
+        && lent.low.len() == pairs
+        && work.len() == circuit.codes().len()
 }
 
 // The word of a seat in a row; zero where the row has none.
@@ -63,11 +72,11 @@ fn word_of_seat<R: Ring>(row: &[R], number: usize) -> R
     entry_at(row, number.saturating_sub(1))
 }
 
-// Sets every entry to zero.
+// Sets every entry to zero. Not by `fill`, which asks that a clone of zero cannot fail.
 fn clear<R: Ring>(work: &mut [R])
     ensures { map R.Ring.element work.new ≡ replicate (length work.old) (K R.Ring).𝟎 }
 {
-    for entry in work.iter_mut() {
+    for entry in work {
         *entry = R::zero();
     }
 }
@@ -81,15 +90,13 @@ fn making_tests<R: Ring>(
     lent: Lent<'_, R>,
     work: &[R],
 ) -> Result<(), Refusal>
-    ensures { result ≡ tested (making_refused R.Ring.points.count seats threshold number codes.now (lengths lent.entry.constants.now lent.entry.inputs.now lent.entry.high.now lent.entry.low.now work.now)) }
+    ensures { result ≡ tested (making_refused R.Ring.points.count seats threshold number codes.now (lengths (tables lent.entry) work.now)) }
 {
-    if seats == 0 || seats > 31 || seats >= R::point_count() {
-        return Err(Refusal::Seats);
-    }
+    test_seats::<R>(seats)?;
     if threshold.saturating_mul(3) >= seats {
         return Err(Refusal::Threshold);
     }
-    if number == 0 || number > seats {
+    if !(1..=seats).contains(&number) {
         return Err(Refusal::Seat);
     }
     let pairs = count_products(codes);
@@ -101,7 +108,7 @@ fn making_tests<R: Ring>(
 
 impl<R: Ring, M: Methods> Node<R, M> {
     // A node over these tables. It copies the list, sets its work table to zero, and works out the gates before the first
-    // opening.
+    // opening. Seats, threshold and number come together here and in the tests above alone, so they are no struct.
     pub fn make(
         heap: Global,
         seats: usize,
@@ -111,22 +118,19 @@ impl<R: Ring, M: Methods> Node<R, M> {
         lent: Lent<'_, R>,
         work: &mut [R],
     ) -> Result<Node<R, M>, Refusal>
-        ensures { MatchResult result (λ x. Made R.Ring M.Methods.method seats threshold number codes.now lent.entry.constants.now lent.entry.inputs.now lent.entry.high.now lent.entry.low.now work.old (state_of x) work.new) (λ e. NotMade R.Ring M.Methods.method seats threshold number codes.now lent.entry.constants.now lent.entry.inputs.now lent.entry.high.now lent.entry.low.now work.old e work.new) }
+        ensures { MatchResult result (λ x. Made R.Ring M.Methods.method seats threshold number codes.now (tables lent.entry) work.old x work.new) (λ e. NotMade R.Ring M.Methods.method seats threshold number codes.now (tables lent.entry) work.old e work.new) }
     {
         making_tests(seats, threshold, number, codes, lent, work)?;
-        let coordinates = R::coordinate_count();
-        let inputs = lent.inputs.len();
-        let constants = lent.constants.len();
-        let circuit = match Circuit::check::<M>(heap, coordinates, inputs, constants, codes) {
-            Ok(circuit) => circuit,
-            Err(refusal) => return Err(refusal),
+        let limits = Limits {
+            degree: R::DEGREE,
+            inputs: lent.inputs.len(),
+            constants: lent.constants.len(),
         };
-        let Ok(seat) = Seat::new(heap, circuit.openings().len()) else {
-            return Err(Refusal::Memory);
-        };
+        let circuit = Circuit::check::<M>(heap, limits, codes)?;
+        let seat = Seat::new(heap, circuit.openings().len())?;
         clear(work);
         let first = stage(&circuit, 0);
-        settle::<R, M>(&circuit, 0, first, lent.constants, lent.inputs, work);
+        settle::<R, M>(&circuit, 0, first, lent, work);
         Ok(Node {
             seats,
             threshold,
@@ -139,7 +143,7 @@ impl<R: Ring, M: Methods> Node<R, M> {
 
     // The opening it is at, or why there is none.
     fn opening(&self, lent: Lent<'_, R>, work: &[R]) -> Result<Opening, Refusal>
-        ensures { result ≡ node_opening (state_of self.now) (lengths lent.entry.constants.now lent.entry.inputs.now lent.entry.high.now lent.entry.low.now work.now) }
+        ensures { result ≡ node_opening self.now (tables lent.entry) work.now }
     {
         if !fit(lent, &self.circuit, work) {
             return Err(Refusal::Length);
@@ -149,7 +153,7 @@ impl<R: Ring, M: Methods> Node<R, M> {
 
     // The word of the present opening. It changes nothing.
     pub fn post(&self, lent: Lent<'_, R>, work: &[R]) -> Result<R, Refusal>
-        ensures { Posts R.Ring M.Methods.method (state_of self.now) lent.entry.high.now work.now result (node_opening (state_of self.now) (lengths lent.entry.constants.now lent.entry.inputs.now lent.entry.high.now lent.entry.low.now work.now)) }
+        ensures { Posts R.Ring M.Methods.method self.now (tables lent.entry) work.now result }
     {
         let opening = self.opening(lent, work)?;
         Ok(shown_word(&self.circuit, opening, work, lent.high))
@@ -162,7 +166,7 @@ impl<R: Ring, M: Methods> Node<R, M> {
         row: &[R],
         work: &mut [R],
     ) -> Result<Option<Fault>, Refusal>
-        ensures { Takes R.Ring M.Methods.method lent.entry.constants.now lent.entry.inputs.now lent.entry.high.now lent.entry.low.now row.now (state_of self.old) work.old result (state_of self.new) work.new (node_opening (state_of self.old) (lengths lent.entry.constants.now lent.entry.inputs.now lent.entry.high.now lent.entry.low.now work.old)) }
+        ensures { Takes R.Ring M.Methods.method (tables lent.entry) row.now self.old work.old result self.new work.new }
     {
         let opening = self.opening(lent, work)?;
         if row.len() != self.seats {
@@ -172,27 +176,20 @@ impl<R: Ring, M: Methods> Node<R, M> {
         if !word_of_seat(row, self.number).same(own) {
             return Err(Refusal::Own);
         }
-        self.seat.take::<M>(
-            &self.circuit,
-            self.threshold,
-            row,
-            lent.constants,
-            lent.inputs,
-            lent.low,
-            work,
-        )
+        self.seat
+            .take::<M>(&self.circuit, self.threshold, row, lent, work)
     }
 
     // The values it has opened, in order.
     pub fn opened(&self) -> &[R]
-        ensures { result.now ≡ (state_of self.now).keeps.opened }
+        ensures { result.now ≡ self.now.keeps.opened }
     {
         self.seat.opened()
     }
 
     // Its fault, if it has stopped.
     pub fn fault(&self) -> Option<Fault>
-        ensures { result ≡ (state_of self.now).keeps.fault }
+        ensures { result ≡ self.now.keeps.fault }
     {
         self.seat.fault()
     }

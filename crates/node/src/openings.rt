@@ -9,7 +9,7 @@ use crate::fault::Fault;
 use circuit::checked::Circuit;
 use circuit::openings::Opening;
 use curve::refusal::Refusal;
-use curve::{Opening as RowOpening, open_row};
+use curve::{OffCurve, open_row};
 use encoding::layout::Layout;
 use ring::{Number, Ring};
 use rules::plain::seen_through;
@@ -18,12 +18,7 @@ use rules::plain::seen_through;
 fn first_difference<R: Ring>(a: R, b: R) -> Option<usize>
     ensures { Differ (degree R.Ring.shape) (R.Ring.element a).0 (R.Ring.element b).0 result }
 {
-    for place in 0..R::coordinate_count() {
-        if a.coordinate(place).wide() != b.coordinate(place).wide() {
-            return Some(place);
-        }
-    }
-    None
+    (0..R::DEGREE).find(|place| a.coordinate(*place).wide() != b.coordinate(*place).wide())
 }
 
 // The lowest coordinate of a value that is not zero and is no position of the layout.
@@ -35,9 +30,9 @@ fn stray<R: Ring>(layout: Layout, value: R) -> Option<usize>
 
 // What an opened value comes to: at a product anything is taken, at an output a value that is zero off its layout.
 fn taken<R: Ring>(circuit: &Circuit, opening: Opening, value: R) -> Result<R, Fault>
-    ensures { ValueComesTo R.Ring circuit.now.layouts.items opening value result }
+    ensures { ValueComesTo R.Ring circuit.now.layouts opening value result }
 {
-    if let Opening::Output { gate, number: _ } = opening {
+    if let Opening::Output { gate, .. } = opening {
         if let Some(coordinate) = stray(circuit.layout(gate), value) {
             return Err(Fault::Lanes { gate, coordinate });
         }
@@ -52,12 +47,12 @@ pub fn open_at<R: Ring>(
     threshold: usize,
     row: &[R],
 ) -> Result<Result<R, Fault>, Refusal>
-    ensures { OpenedAt R.Ring circuit.now.layouts.items threshold row.now opening result (curve_refused R.Ring.points.count (length row.now) (degree_of threshold opening)) }
+    ensures { OpenedAt R.Ring circuit.now.layouts threshold row.now opening result (curve_refused R.Ring.points.count (length row.now) (degree_of threshold opening)) }
 {
     let degree = opening.thresholds().saturating_mul(threshold);
     match open_row(degree, row)? {
-        RowOpening::Value(value) => Ok(taken(circuit, opening, value)),
-        RowOpening::Fault(seat) => Ok(Err(Fault::Row {
+        Ok(value) => Ok(taken(circuit, opening, value)),
+        Err(OffCurve { seat }) => Ok(Err(Fault::Row {
             gate: opening.gate(),
             seat,
         })),

@@ -6,8 +6,6 @@ ghost use Rattle.protocol.specs.Gates.{OpeningsNumbered};
 ghost use Rattle.protocol.specs.Runs.{CurvesHold, RunsSound, OpeningsComplete, TrueWordsExist, TrueWordsOnce, RunsComplete, WordsCausal};
 ghost use Rattle.protocol.specs.Clear.{ValuesClear};
 ghost use Rattle.protocol.specs.Engine.{TablesStand, EngineSound, RowsAlike};
-ghost use Rattle.ring.specs.B8.{b8, b8_points};
-ghost use Rattle.ring.specs.W4.{w4, w4_points};
 ghost use Rattle.encoding.specs.Encodings.{standard};
 
 use encoding::methods::{Methods, Standard};
@@ -88,20 +86,11 @@ pub fn rows_open_alike<R: Ring>()
     ensures { RowsAlike R.Ring }
 {}
 
-// Arrays of four words, with the usual methods.
-pub fn words_are_sound()
-    ensures tables { TablesStand w4 w4_points }
-    ensures runs { EngineSound w4 w4_points standard }
+// Every ring of the engine, with the usual methods.
+pub fn usual_methods_are_sound<R: Ring>()
+    ensures tables { TablesStand R.Ring.shape R.Ring.points }
+    ensures runs { EngineSound R.Ring.shape R.Ring.points standard }
 {
-    tables_stand::<[u64; 4]>();
-    engine_is_sound::<[u64; 4], Standard>()
-}
-
-// Bytes, with the usual methods.
-pub fn bytes_are_sound()
-    ensures tables { TablesStand b8 b8_points }
-    ensures runs { EngineSound b8 b8_points standard }
-{
-    tables_stand::<u8>();
-    engine_is_sound::<u8, Standard>()
+    tables_stand::<R>();
+    engine_is_sound::<R, Standard>()
 }

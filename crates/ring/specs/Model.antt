@@ -39,6 +39,12 @@ pub record PointLaws (s : Shape) (p : Points s) : Type 0 where
   pub inverse : (i j : ℕ) → i < p.count → j < p.count → (i ≢ j) → (ring s).◌⊗◌ (sub (ring s) (p.at i) (p.at j)) (p.inv i j) ≡ (ring s).𝟏
   pub none : (i : ℕ) → p.inv i i ≡ (ring s).𝟎
 
+-- the constants of a ring: its modulus, its degree, and how many points it has
+pub record Counts (q d n : ℕ) (s : Shape) (p : Points s) : Type 0 where
+  pub modulus : q ≡ s.q
+  pub degree : d ≡ length s.h
+  pub points : n ≡ p.count
+
 -- a coordinate fits 64 bits, and there are at most 16 of them
 pub record Limits (s : Shape) : Type 0 where
   pub modulus : s.q ≤ 2 ^ 64

@@ -1,5 +1,5 @@
 -- The ring of four 64-bit coordinates modulo X^4 + X + 1, with 16 points.
-use Rattle.std.specs.Prelude.{ℕ, ◌+◌, ◌*◌, ◌%◌, ◌^◌, List, [], ◌∷◌, slice_index, refl}
+use Rattle.std.specs.Prelude.{ℕ, ◌%◌, ◌^◌, List, [], ◌∷◌, slice_index, slice_index_or, refl}
 use Rattle.std.proofs.Common.{mod-lt, lit<, lit≤}
 use Rattle.algebra.specs.Quotient.{Shape, Element}
 use Rattle.ring.specs.Model.{Points, bit_of}
@@ -26,7 +26,7 @@ w4_point i = four (bit_of i 0) (bit_of i 1) (bit_of i 2) (bit_of i 3)
 
 -- the table's entry for the points i and j
 abbrev pub w4_entry : ℕ → ℕ → Element w4
-w4_entry i j = let k = i * 64 + j * 4 in four (slice_index inverses k) (slice_index inverses (k + 1)) (slice_index inverses (k + 2)) (slice_index inverses (k + 3))
+w4_entry i j = w4_element (slice_index_or (slice_index_or inverses i []) j [])
 
 abbrev pub w4_points : Points w4
 w4_points = record { count = 16; at = w4_point; inv = λ i j. w4_entry (i % 16) (j % 16) }

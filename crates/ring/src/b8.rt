@@ -1,7 +1,7 @@
 ghost use Rattle.std.specs.Prelude.{◌≡◌, if◌then◌else◌};
 ghost use Rattle.algebra.specs.Quotient.{modulo, shift};
 ghost use Rattle.ring.specs.B8.{b8, bits, b8_element, b8_points};
-ghost use Rattle.ring.specs.Model.{coordinate_of};
+ghost use Rattle.ring.specs.Model.{coordinate_of, degree};
 ghost use Rattle.ring.specs.Bytes.{b8_laws};
 ghost use Rattle.std.proofs.Common.{rules};
 
@@ -27,9 +27,15 @@ impl Ring for u8 {
 
     const MODULUS: u128 = 2;
 
+    ghost MODULUS = { b8.q };
+
     const DEGREE: usize = 8;
 
+    ghost DEGREE = { degree b8 };
+
     const POINTS: usize = 256;
+
+    ghost POINTS = { b8_points.count };
 
     ghost shape = { b8 };
 
@@ -37,21 +43,11 @@ impl Ring for u8 {
 
     ghost points = { b8_points };
 
+    ghost counts = { Prim.search rules };
+
     ghost limits = { Prim.search rules };
 
     ghost pointed = { b8_laws };
-
-    fn coordinate_modulus() -> u128 {
-        Self::MODULUS
-    }
-
-    fn coordinate_count() -> usize {
-        Self::DEGREE
-    }
-
-    fn point_count() -> usize {
-        Self::POINTS
-    }
 
     fn zero() -> u8 {
         0x00

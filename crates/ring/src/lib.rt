@@ -3,13 +3,14 @@
 ghost use Rattle.std.specs.Prelude.{◌≡◌, ℕ, ◌≤◌, true, if◌then◌else◌};
 ghost use Rattle.algebra.specs.Quotient.{Shape, Element};
 ghost use Rattle.algebra.specs.Ring.{CommRing, sub};
-ghost use Rattle.ring.specs.Model.{ring, degree, coordinate_of, embedded, Points, PointLaws, Limits, Laws};
+ghost use Rattle.ring.specs.Model.{ring, coordinate_of, embedded, Points, PointLaws, Counts, Limits, Laws};
 
 pub mod b8;
 mod tables;
 pub mod w4;
 
-// What a coordinate is held in: a number of at most 64 bits.
+// What a coordinate is held in: a number of at most 64 bits. Not `Into<u64>`: clauses read the number as a function of the
+// value, and of `into` they know a relation.
 pub trait Number: Copy {
     ghost value: { Self → ℕ };
 
@@ -29,7 +30,7 @@ impl Number for bool {
     ghost value = { λ x. (if x then 1 else 0) };
 
     fn wide(self) -> u64 {
-        if self { 1 } else { 0 }
+        u64::from(self)
     }
 }
 
@@ -41,27 +42,23 @@ pub trait Ring: Copy {
     // The number q, below which each coordinate stands.
     const MODULUS: u128;
 
+    ghost MODULUS: { ℕ };
+
     // The number d of coordinates.
     const DEGREE: usize;
 
+    ghost DEGREE: { ℕ };
+
     // The number of evaluation points.
     const POINTS: usize;
+
+    ghost POINTS: { ℕ };
 
     ghost shape: { Shape };
 
     ghost element: { Self → Element shape };
 
     ghost points: { Points shape };
-
-    // The three constants for generic code, which sees no constant's value.
-    fn coordinate_modulus() -> u128
-        ensures { result ≡ shape.q };
-
-    fn coordinate_count() -> usize
-        ensures { result ≡ degree shape };
-
-    fn point_count() -> usize
-        ensures { result ≡ points.count };
 
     fn zero() -> Self
         ensures { element result ≡ (ring shape).𝟎 };
@@ -75,7 +72,7 @@ pub trait Ring: Copy {
     fn mul(self, other: Self) -> Self
         ensures { element result ≡ (ring shape).◌⊗◌ (element self) (element other) };
 
-    // Whether the two are one element.
+    // Whether the two are one element: an operation of the ring, which knows elements and not how they are held.
     fn same(self, other: Self) -> bool
         ensures { (result ≡ true → element self ≡ element other) × (element self ≡ element other → result ≡ true) };
 
@@ -94,6 +91,9 @@ pub trait Ring: Copy {
     // The inverse of the difference of two points; zero if they are one.
     fn inverse(i: usize, j: usize) -> Self
         ensures { element result ≡ points.inv i j };
+
+    // The constants are those of the shape and of the points.
+    ghost counts: { Counts MODULUS DEGREE POINTS shape points };
 
     ghost limits: { Limits shape };
 

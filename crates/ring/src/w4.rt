@@ -1,12 +1,14 @@
 ghost use Rattle.std.specs.Prelude.{◌≡◌, ◌^◌};
 ghost use Rattle.algebra.specs.Poly.{poly_product};
 ghost use Rattle.algebra.specs.Quotient.{modulo, product, unit};
+ghost use Rattle.ring.specs.Model.{degree};
 ghost use Rattle.ring.specs.W4.{w4, w4_element, w4_points, seven};
 ghost use Rattle.ring.specs.Words.{w4_laws};
 ghost use Rattle.std.proofs.Common.{rules};
 
 use crate::Ring;
 use crate::tables::W4_INVERSES;
+use std::array;
 
 // The plain product of polynomials: sum k is that of all products of coordinates whose places add up to k.
 fn sums(a: [u64; 4], b: [u64; 4]) -> [u64; 7]
@@ -50,9 +52,15 @@ impl Ring for [u64; 4] {
 
     const MODULUS: u128 = 18446744073709551616;
 
+    ghost MODULUS = { w4.q };
+
     const DEGREE: usize = 4;
 
+    ghost DEGREE = { degree w4 };
+
     const POINTS: usize = 16;
+
+    ghost POINTS = { w4_points.count };
 
     ghost shape = { w4 };
 
@@ -60,42 +68,22 @@ impl Ring for [u64; 4] {
 
     ghost points = { w4_points };
 
+    ghost counts = { Prim.search rules };
+
     ghost limits = { Prim.search rules };
 
     ghost pointed = { w4_laws };
-
-    fn coordinate_modulus() -> u128 {
-        Self::MODULUS
-    }
-
-    fn coordinate_count() -> usize {
-        Self::DEGREE
-    }
-
-    fn point_count() -> usize {
-        Self::POINTS
-    }
 
     fn zero() -> [u64; 4] {
         [0, 0, 0, 0]
     }
 
     fn add(self, other: [u64; 4]) -> [u64; 4] {
-        [
-            self[0].wrapping_add(other[0]),
-            self[1].wrapping_add(other[1]),
-            self[2].wrapping_add(other[2]),
-            self[3].wrapping_add(other[3]),
-        ]
+        array::from_fn(|c| self[c].wrapping_add(other[c]))
     }
 
     fn sub(self, other: [u64; 4]) -> [u64; 4] {
-        [
-            self[0].wrapping_sub(other[0]),
-            self[1].wrapping_sub(other[1]),
-            self[2].wrapping_sub(other[2]),
-            self[3].wrapping_sub(other[3]),
-        ]
+        array::from_fn(|c| self[c].wrapping_sub(other[c]))
     }
 
     fn mul(self, other: [u64; 4]) -> [u64; 4] {
@@ -103,12 +91,7 @@ impl Ring for [u64; 4] {
     }
 
     fn same(self, other: [u64; 4]) -> bool {
-        for c in 0..4 {
-            if self[c] != other[c] {
-                return false;
-            }
-        }
-        true
+        self == other
     }
 
     fn coordinate(self, place: usize) -> u64 {
@@ -129,12 +112,6 @@ impl Ring for [u64; 4] {
     }
 
     fn inverse(i: usize, j: usize) -> [u64; 4] {
-        let k = i % 16 * 64 + j % 16 * 4;
-        [
-            W4_INVERSES[k],
-            W4_INVERSES[k + 1],
-            W4_INVERSES[k + 2],
-            W4_INVERSES[k + 3],
-        ]
+        W4_INVERSES[i % 16][j % 16]
     }
 }

@@ -36,11 +36,7 @@ fn main(rt: HostRuntime) -> io::Result<()> {
 
 // A table of four empty places, enough for two seats.
 fn places<R: Ring>(heap: Global) -> Result<Vec<Option<R>>, AllocError> {
-    let mut table = Vec::with_capacity(heap, 4)?;
-    for _ in 0..4 {
-        table.push(None)?;
-    }
-    Ok(table)
+    vec![in heap; None; 4]
 }
 
 // Two seats place a word each, and seat 2 collects its row before, between and after.
@@ -51,44 +47,21 @@ fn trial<R: Ring, X: Exchange<R> + Drop>(
     words: (R, R),
     row: &mut [R],
 ) -> io::Result<()> {
-    say(rt, name, "two seats", exchange.set_seats(2))?;
-    say(
-        rt,
-        name,
-        "row of an empty sheet",
-        collect_row(&exchange, 2, row),
-    )?;
-    say(
-        rt,
-        name,
-        "word of seat 1",
-        exchange.place_for_all(1, words.0),
-    )?;
-    say(
-        rt,
-        name,
-        "row with a word missing",
-        collect_row(&exchange, 2, row),
-    )?;
-    say(
-        rt,
-        name,
-        "word of seat 2",
-        exchange.place_for_all(2, words.1),
-    )?;
-    say(rt, name, "row of seat 3", collect_row(&exchange, 3, row))?;
-    say(rt, name, "row of seat 2", collect_row(&exchange, 2, row))?;
-    show(rt, name, row)
-}
-
-fn say(rt: &HostRuntime, name: &str, step: &str, answer: Result<(), Refusal>) -> io::Result<()> {
-    match answer {
+    let say = |step: &str, answer: Result<(), Refusal>| match answer {
         Ok(()) => println!(rt; "{name}: {step}: ok"),
         Err(refusal) => {
             let number = refusal.number().unwrap_or(0);
             println!(rt; "{name}: {step}: refused {number}")
         }
-    }
+    };
+    say("two seats", exchange.set_seats(2))?;
+    say("row of an empty sheet", collect_row(&exchange, 2, row))?;
+    say("word of seat 1", exchange.place_for_all(1, words.0))?;
+    say("row with a word missing", collect_row(&exchange, 2, row))?;
+    say("word of seat 2", exchange.place_for_all(2, words.1))?;
+    say("row of seat 3", collect_row(&exchange, 3, row))?;
+    say("row of seat 2", collect_row(&exchange, 2, row))?;
+    show(rt, name, row)
 }
 
 // The lowest two coordinates of each word.

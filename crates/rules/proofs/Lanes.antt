@@ -3,6 +3,8 @@ use Rattle.std.proofs.Common.{◌≡◌, ℕ, suc, pred, ◌+◌, ◌-◌, ◌*�
 use native.Mathlib.Nat.{mod-mod, mod_self, add-mod, zero-mod, sub-zero}
 use lib.ListN.{length-replicate, length-map, get_or-eq_default}
 use Rattle.std.proofs.lemmas.Bool.{cases_eq, cases_lt}
+use Rattle.std.proofs.lemmas.Grind.{same_number_lists}
+use Rattle.std.proofs.lemmas.List.{get_or_default}
 use Rattle.algebra.specs.Quotient.{Shape, Element, modulo, add, negate, scale, zeros}
 use Rattle.algebra.proofs.Modulo.{mod_mul_mod, mul_mod_mod}
 use Rattle.algebra.proofs.Quotient.{same_element, no_zero}
@@ -11,7 +13,6 @@ use Rattle.encoding.specs.Encodings.{Enc, Sound, laid}
 use Rattle.encoding.specs.Layouts.{positions, read_at}
 use Rattle.encoding.specs.declared.layout.Layout.{Layout}
 use Rattle.encoding.specs.declared.layout.Layout.TheVariants.{Plain}
-use Rattle.encoding.specs.Laying.{same_places, any_default}
 use Rattle.encoding.specs.Positions.{sought}
 use Rattle.encoding.specs.Product.{terms, Room, zeros_at, length_add, add_at, at_below, minus_at, scale_at, plain_at}
 use Rattle.encoding.specs.Sound.{pos, long, here, off, placed, position_low, total_one}
@@ -89,7 +90,7 @@ module _ (s : Shape) where
         → x ≡ value s layout lanes
     value_at x lanes count at-lane elsewhere =
         same_element s x (value s layout lanes)
-        (same_places x.0 (laid s layout lanes) (x.1.0 ∙ sym (long s layout lanes))
+        (same_number_lists x.0 (laid s layout lanes) (x.1.0 ∙ sym (long s layout lanes))
         (λ k h. elim (sought (positions layout (length s.h)) k) [
           | inl found ↦
               ap (λ j. get_or x.0 j 0) (sym found.2)
@@ -153,7 +154,7 @@ module _ (s : Shape) where
     moves v k inside =
         let ps = positions layout (length s.h) in
         let p = get_or ps k (length s.h) in
-        let same-p : p ≡ get_or ps k 0 = any_default ps k (length s.h) 0 inside in
+        let same-p : p ≡ get_or ps k 0 = get_or_default ps k (length s.h) 0 inside in
         let base = zeros (modulo s.q) s.h in
         let wide : length base ≡ length s.h = length-map s.h (λ x. 0) in
         let room : p < length base = omega (arith, position_low layout (length s.h) s.some k inside) in

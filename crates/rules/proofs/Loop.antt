@@ -1,5 +1,5 @@
 -- The values of a list, gate by gate.
-use Rattle.std.proofs.Common.{◌≡◌, ℕ, zero, suc, ◌+◌, ◌<◌, ◌≤◌, Bool, true, false, eqb, List, [], ◌∷◌, ◌++◌, map, length, get_or, sym, refl, ap, ◌∙◌, ap₂, add-one, arith, length-append}
+use Rattle.std.proofs.Common.{◌≡◌, ℕ, zero, suc, ◌+◌, ◌<◌, Bool, true, false, eqb, List, [], ◌∷◌, ◌++◌, map, length, get_or, sym, refl, ap, ◌∙◌, ap₂, add-one, arith, length-append}
 use lib.Dec.{eqb-suc-zero, eqb-zero-suc, eqb-suc-suc}
 use Rattle.curve.specs.Curve.{listed, word}
 use Rattle.curve.proofs.Loops.{filled_all}
@@ -52,26 +52,22 @@ module _ {R C : Type 0} (G : Ghosts R C) (method : ℕ → Enc) (constants : Lis
         are = (λ i a. at a i) ∙ ap (clear_before G.shape method constants (word G inputs) codes layouts) (sym up);
       }
 
-  pub worked_all : {values : List R} {g : ℕ} → Worked values g → g ≤ length codes → length codes ≤ g → map G.element values ≡ listed (length codes) (clear G.shape method constants (word G inputs) codes layouts)
-  worked_all {values} {g} w low high =
-      let same : g ≡ length codes = omega arith in
+  pub worked_all : {values : List R} {g : ℕ} → Worked values g → g ≡ length codes → map G.element values ≡ listed (length codes) (clear G.shape method constants (word G inputs) codes layouts)
+  worked_all {values} w all =
       filled_all G.element values {i = length codes} (length codes)
-      (record { at = λ k h. ap (λ e. e k) w.are ∙ ap (λ n. clear_before G.shape method constants (word G inputs) codes layouts n k) same })
-      (w.many ∙ same) (omega arith)
+      (record { at = λ k h. ap (λ e. e k) w.are ∙ ap (λ n. clear_before G.shape method constants (word G inputs) codes layouts n k) all })
+      (w.many ∙ all) (omega arith)
 
--- the whole list's values, the codes, layouts and counts being those of the circuit
-pub values_are : {R C : Type 0} (G : Ghosts R C) (method : ℕ → Enc) → ((m : ℕ) → m < 3 → Sound (method m)) → (codes layouts' : _) (inputs constants : ℕ) (constant-list : List ℕ) (input-list : List R)
-    → (own-codes : List ℕ) (own-layouts : List Layout) → own-codes ≡ codes → own-layouts ≡ layouts'
-    → counts_fit G method codes layouts' inputs constants constant-list input-list ≡ true
-    → {values : List R} {g : ℕ} → Worked G method constant-list input-list own-codes own-layouts values g → g ≤ length own-codes → length own-codes ≤ g
-    → ValuesAre G method codes layouts' inputs constants constant-list input-list values
-values_are G method sound codes layouts' inputs constants constant-list input-list own-codes own-layouts ec el fit {values} {g} w low high = record {
+-- the whole list's values
+pub values_are : {R C : Type 0} (G : Ghosts R C) (method : ℕ → Enc) → ((m : ℕ) → m < 3 → Sound (method m)) → (codes : List ℕ) (layouts : List Layout) (inputs constants : ℕ) (constant-list : List ℕ) (input-list : List R)
+    → counts_fit G method codes layouts inputs constants constant-list input-list ≡ true
+    → {values : List R} {g : ℕ} → Worked G method constant-list input-list codes layouts values g → g ≡ length codes
+    → ValuesAre G method codes layouts inputs constants constant-list input-list values
+values_are G method sound codes layouts inputs constants constant-list input-list fit {values} {g} w all = record {
   fit = fit;
-  each =
-      worked_all G method constant-list input-list own-codes own-layouts w low high
-      ∙ ap₂ (λ cs ls. listed (length cs) (clear G.shape method constant-list (word G input-list) cs ls)) ec el;
+  each = worked_all G method constant-list input-list codes layouts w all;
   plainly = λ taken.
       let many : length constant-list ≡ constants = eqb-true _ _ (and_parts _ _ fit).0 in
-      evaluation_is_plain method sound G.shape constant-list inputs (word G input-list) codes layouts'
+      evaluation_is_plain method sound G.shape constant-list inputs (word G input-list) codes layouts
       (ap (λ n. list_checked (setting (degree G.shape) inputs n method) codes) many ∙ taken);
 }

@@ -1,8 +1,9 @@
 -- Values of lanes, computed with: what the operations of the ring do to the lanes.
-use Rattle.std.proofs.Common.{◌≡◌, ℕ, zero, suc, ◌%◌, ◌<◌, ◌≤◌, true, false, cond, List, [], ◌∷◌, length, get_or, set, filter, refl, ap, ◌∙◌, ap₂, arith}
+use Rattle.std.proofs.Common.{◌≡◌, ℕ, zero, suc, ◌%◌, ◌<◌, ◌≤◌, List, [], ◌∷◌, length, get_or, set, refl, ap, ◌∙◌, ap₂, arith}
 use lib.ListN.{length-map}
 use Rattle.std.specs.List.{range_with_len}
 use Rattle.std.proofs.lemmas.List.FromFn.{length-range_with_len}
+use Rattle.std.proofs.lemmas.List.Sums.{length-filter, count_by-le-length}
 use Rattle.algebra.specs.Quotient.{Shape, Element, modulo, zeros}
 use Rattle.algebra.proofs.Quotient.{same_element}
 use Rattle.curve.specs.Curve.{listed}
@@ -25,16 +26,11 @@ laid_first q base (p ∷ ps) (x ∷ a) (y ∷ b) la lb e =
     (laid_first q base ps a b (omega arith) (omega arith) (λ l h. let up : suc l < suc (length ps) = omega arith in e (suc l) up))
     (e 0 (omega arith))
 
-kept_few : (xs : List ℕ) → length (filter no_two xs) ≤ length xs
-kept_few [] = omega arith
-kept_few (x ∷ xs) =
-    let few = kept_few xs in
-    elim (no_two x) as (λ b. length (cond b (x ∷ filter no_two xs) (filter no_two xs)) ≤ suc (length xs)) [ true ↦ (let l : suc (length (filter no_two xs)) ≤ suc (length xs) = omega arith in l) | false ↦ (let l : length (filter no_two xs) ≤ suc (length xs) = omega arith in l) ]
-
 -- no layout has more lanes than there are coordinates
 pub few_lanes : (layout : Layout) (d : ℕ) → 1 ≤ d → length (positions layout d) ≤ d
 few_lanes Plain d some = some
-few_lanes Lanes d some = let m = kept_few (range_with_len 0 (half d)) in omega (arith, length-range_with_len 0 (half d))
+few_lanes Lanes d some =
+    omega (arith, length-filter no_two (range_with_len 0 (half d)), count_by-le-length no_two (range_with_len 0 (half d)), length-range_with_len 0 (half d))
 few_lanes Left d some = omega (arith, length-range_with_len 0 (half d))
 few_lanes Right d some = omega (arith, length_back (half d))
 

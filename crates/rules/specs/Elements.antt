@@ -1,5 +1,5 @@
 -- What every seat knows, as elements of the ring of a shape.
-use Rattle.std.specs.Prelude.{ℕ, true, false, List, length, replicate, nat_lt, slice_index, slice_index_or}
+use Rattle.std.specs.Prelude.{◌≡◌, ℕ, ◌<◌, true, false, List, length, replicate, nat_lt, slice_index, slice_index_or}
 use Rattle.algebra.specs.Quotient.{Shape, Element}
 use Rattle.ring.specs.Model.{ring, degree, embedded}
 use Rattle.encoding.specs.Encodings.{Enc, laid}
@@ -15,6 +15,10 @@ value s layout lanes = (laid s layout lanes, is_laid s layout lanes)
 -- a number, modulo q, at coordinate p
 abbrev pub number_at : (s : Shape) → ℕ → ℕ → Element s
 number_at s v p = (embedded s v p, is_embedded s v p)
+
+-- what is called answers the position of each of the first n lanes, and d where there is no such lane
+abbrev pub Answers : (ℕ → ℕ → Type 0) → ℕ → ℕ → List ℕ → Type 0
+Answers answer d n ps = (lane p : ℕ) → lane < n → answer lane p → p ≡ slice_index_or ps lane d
 
 -- the out layout of what is read from an element
 abbrev pub picked : (s : Shape) → Enc → Element s → Element s

@@ -7,13 +7,13 @@ ghost use Rattle.ring.specs.Model.{degree};
 ghost use Rattle.rules.specs.Clear.{seen, clear_gate};
 ghost use Rattle.rules.specs.Theorems.{ValuesAre, EvaluationRefused, EvaluationIsPlain, KeptAdds};
 
-use crate::gates::{Opened, ROOM, entry_at, entry_of, word_of};
+use crate::gates::{Opened, entry_at, entry_of, picked_by, read_by, word_of};
 use circuit::checked::Circuit;
+use circuit::kinds::Kind;
 use circuit::split;
 use curve::refusal::Refusal;
 use encoding::layout::Layout;
 use encoding::methods::Methods;
-use encoding::values::{lay_out, read_lane};
 use ring::Ring;
 use std::alloc::Global;
 
@@ -21,18 +21,14 @@ use std::alloc::Global;
 pub fn read_lanes<R: Ring>(layout: Layout, value: R, lanes: &mut [u64])
     ensures { lanes.new ≡ listed (length lanes.old) (λ l. slice_index (read_at (positions layout (degree R.Ring.shape)) (R.Ring.element value).0) l) }
 {
-    for lane in 0..lanes.len() {
-        lanes[lane] = read_lane(layout, value, lane);
-    }
+    read_by(value, |lane| layout.position(R::DEGREE, lane), lanes)
 }
 
 // An element's coordinates at the positions of a layout, and zero elsewhere.
 pub fn seen_through<R: Ring>(layout: Layout, value: R) -> R
     ensures { R.Ring.element result ≡ seen R.Ring.shape layout (R.Ring.element value) }
 {
-    let mut lanes = [0; ROOM];
-    read_lanes(layout, value, &mut lanes);
-    lay_out(layout, &lanes)
+    picked_by(value, |lane| layout.position(R::DEGREE, lane), layout)
 }
 
 // The value of a gate from the values of those before it. An opening answers its word, and there is no pair to add.
@@ -45,8 +41,9 @@ fn value_of<R: Ring, M: Methods>(
 ) -> R
     ensures { R.Ring.element result ≡ clear_gate R.Ring.shape M.Methods.method constants.now (word_at R.Ring inputs.now) layout (word_at R.Ring values.now) (gate_by gate.0 gate.1 gate.2 gate.3) }
 {
-    if gate.0 == 0 {
-        return seen_through(layout, entry_at(inputs, gate.2 as usize));
+    let (kind, _, first, _) = gate;
+    if Kind::from(kind) == Kind::In {
+        return seen_through(layout, entry_at(inputs, first as usize));
     }
     let opened = Opened {
         value: word_of(gate, values, R::zero()),
@@ -59,7 +56,7 @@ fn value_of<R: Ring, M: Methods>(
 fn counts_fit(circuit: &Circuit, constants: usize, inputs: usize) -> bool
     ensures { result ≡ (constants == circuit.now.constants && inputs == circuit.now.inputs) }
 {
-    (constants == circuit.constants()) & (inputs == circuit.inputs())
+    constants == circuit.constants() && inputs == circuit.inputs()
 }
 
 // The value of every gate of a list, in order, from the constants and the inputs' values.
@@ -69,20 +66,14 @@ pub fn evaluate<R: Ring, M: Methods>(
     constants: &[u64],
     inputs: &[R],
 ) -> Result<Vec<R>, Refusal>
-    ensures { MatchResult result (λ v. ValuesAre R.Ring M.Methods.method circuit.now.codes.items circuit.now.layouts.items circuit.now.inputs circuit.now.constants constants.now inputs.now v.items) (λ e. EvaluationRefused R.Ring M.Methods.method circuit.now.codes.items circuit.now.layouts.items circuit.now.inputs circuit.now.constants constants.now inputs.now e) }
+    ensures { MatchResult result (λ v. ValuesAre R.Ring M.Methods.method circuit.now.codes circuit.now.layouts circuit.now.inputs circuit.now.constants constants.now inputs.now v.items) (λ e. EvaluationRefused R.Ring M.Methods.method circuit.now.codes circuit.now.layouts circuit.now.inputs circuit.now.constants constants.now inputs.now e) }
 {
     if !counts_fit(circuit, constants.len(), inputs.len()) {
         return Err(Refusal::Length);
     }
-    let codes = circuit.codes();
-    let layouts = circuit.layouts();
-    let Ok(mut values) = Vec::with_capacity(heap, codes.len()) else {
-        return Err(Refusal::Memory);
-    };
-    for gate in 0..codes.len() {
-        let parts = split(codes[gate]);
-        let layout = layouts[gate];
-        let value = value_of::<R, M>(parts, layout, constants, inputs, values.as_slice());
+    let mut values = Vec::with_capacity(heap, circuit.codes().len())?;
+    for (&code, &layout) in circuit.codes().iter().zip(circuit.layouts()) {
+        let value = value_of::<R, M>(split(code), layout, constants, inputs, values.as_slice());
         values.push_reserved(value);
     }
     Ok(values)

@@ -20,4 +20,4 @@ returns g c =
     let G = g.R.Ring in
     dealt_ok G c.args.n c.args.degree c.args.secret c.args.others.now c.args.shares.now c.loop-i.shares
     (deal_taken G.points.count c.args.n c.args.degree _ _ (tests_passed _ c.in_ok-tests.ensures) c.if-others-degree.false c.if-shares-n.false)
-    (filled_all G.element c.loop-i.shares c.args.n c.loop-i.invariant (omega arith) c.loop-i-test.false)
+    (filled_all G.element c.loop-i.shares c.args.n c.loop-i.invariant (omega arith) (omega arith))

@@ -1,7 +1,8 @@
-use Rattle.std.proofs.Common.{map}
 use Rattle.curve.specs.Curve.{K}
 use Rattle.curve.proofs.Loops.{Horner}
 use Rattle.curve.proofs.value_at.Given as goal
 
-abbrev pub invariant-loop-i : goal.invariant-loop-i
-invariant-loop-i g l = let G = g.R.Ring in Horner (K G) (map G.element l.others) (G.element l.x) l.i (G.element l.sum)
+abbrev pub invariant-loop-other : goal.invariant-loop-other
+invariant-loop-other g l =
+    let G = g.R.Ring in
+    Horner (K G) G.element l.others l.other-iterator.iter.rest.now (G.element l.x) (G.element l.sum)

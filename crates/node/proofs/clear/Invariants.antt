@@ -4,4 +4,4 @@ use Rattle.curve.proofs.Loops.{Filled}
 use Rattle.node.proofs.clear.Given as goal
 
 abbrev pub invariant-loop-entry : goal.invariant-loop-entry
-invariant-loop-entry g l = Filled (map g.R.Ring.element l.work) (λ k. (K g.R.Ring).𝟎) (K g.R.Ring).𝟎 l.entry-index
+invariant-loop-entry g l = Filled (map g.R.Ring.element l.entry-items) (λ k. (K g.R.Ring).𝟎) (K g.R.Ring).𝟎 l.entry-index

@@ -1,29 +1,17 @@
-use Rattle.std.proofs.Common.{◌<◌, ◌∙◌, arith}
-use Rattle.circuit.specs.Gates.{setting}
-use Rattle.circuit.proofs.Rules.{judged_by, sum_rule, constant_rule, out_rule}
+use Rattle.std.proofs.Common.{rules}
 use Rattle.circuit.proofs.gates.check_gate.Goals as goal
 
-pub returns-then-kind-le2 : goal.returns-then-kind-le2
-returns-then-kind-le2 g c =
-    let S = setting c.args.limits.degree c.args.limits.inputs c.args.limits.constants g.M.Methods.method in
-    let p = c.split-kind.result in
-    c.check_sum.ensures
-    ∙ sum_rule S c.args.codes.now c.args.layouts.now c.args.gate p.1 p.2 p.3 p.0 c.if-kind-eq0.false c.if-kind-le2.true
-    ∙ judged_by S c.args.codes.now c.args.layouts.now c.args.gate p c.code_at.result c.split-kind.ensures c.code_at.ensures
+pub returns-in-In : goal.returns-in-In
+returns-in-In g c = search (rules, c.check_in.ensures g.M.Methods.method)
 
-pub returns-then-kind-le4 : goal.returns-then-kind-le4
-returns-then-kind-le4 g c =
-    let S = setting c.args.limits.degree c.args.limits.inputs c.args.limits.constants g.M.Methods.method in
-    let p = c.split-kind.result in
-    c.check_constant.ensures
-    ∙ constant_rule S c.args.codes.now c.args.layouts.now c.args.gate p.1 p.2 p.3 p.0 c.if-kind-le2.false c.if-kind-le4.true
-    ∙ judged_by S c.args.codes.now c.args.layouts.now c.args.gate p c.code_at.result c.split-kind.ensures c.code_at.ensures
+pub returns-in-Add : goal.returns-in-Add
+returns-in-Add g c = search (rules, c.check_sum.ensures g.M.Methods.method)
 
-pub returns : goal.returns
-returns g c =
-    let S = setting c.args.limits.degree c.args.limits.inputs c.args.limits.constants g.M.Methods.method in
-    let p = c.split-kind.result in
-    let high : 6 < p.0 = omega (arith, c.if-kind-le4.false, c.if-kind-eq5.false, c.if-kind-eq6.false) in
-    c.check_out.ensures
-    ∙ out_rule S c.args.codes.now c.args.layouts.now c.args.gate p.1 p.2 p.3 p.0 high
-    ∙ judged_by S c.args.codes.now c.args.layouts.now c.args.gate p c.code_at.result c.split-kind.ensures c.code_at.ensures
+pub returns-in-Scale : goal.returns-in-Scale
+returns-in-Scale g c = search (rules, c.check_constant.ensures g.M.Methods.method)
+
+pub returns-in-Place : goal.returns-in-Place
+returns-in-Place g c = search (rules, c.check_place.ensures g.M.Methods.method)
+
+pub returns-in-Out : goal.returns-in-Out
+returns-in-Out g c = search (rules, c.check_out.ensures g.M.Methods.method)

@@ -1,12 +1,11 @@
-use Rattle.std.proofs.Common.{Bool, true, false, arith}
-use Rattle.exchange.proofs.Counts.{empties_more}
+use Rattle.std.proofs.Common.{not, take, is_some, ◌∙◌, rules, tests, arith}
+use Rattle.std.proofs.lemmas.Iterator.{YieldsList-from_slice}
+use Rattle.std.proofs.lemmas.Iterator.Consumers.{count_from_yields_List, YieldsList-from_filter}
+use Rattle.exchange.proofs.Counts.{empties_is}
 use Rattle.exchange.proofs.table.count_empty.Goals as goal
-use Rattle.exchange.proofs.table.count_empty.Goals.{then-is_none, else-is_none}
 
-pub loop-k-preserved : goal.loop-k-preserved
-loop-k-preserved g c =
-    let more = λ (b : Bool). empties_more c.args.table.now c.loop-k.k c.index-table-k.result b (omega arith) c.index-table-k.is in
-    elim c.if-is_none.branch [
-      | then-is_none w ↦ (omega (arith, w.sum-is, more false w.if-is_none.ensures), omega (arith, w.sum-is))
-      | else-is_none w ↦ (omega (arith, w.sum-is, more true w.if-is_none.ensures), omega (arith, w.sum-is))
-    ]
+pub returns-clause-sum : goal.returns-clause-sum
+returns-clause-sum g c =
+    count_from_yields_List c.filter.result _ c.count.ensures.ran
+    (YieldsList-from_filter _ (λ o. not (is_some o)) (YieldsList-from_slice (take c.args.count c.args.table.now) cc) c.filter.ensures.closure (λ x r q k. search (rules, tests)))
+    ∙ empties_is c.args.table.now c.args.count (omega arith)

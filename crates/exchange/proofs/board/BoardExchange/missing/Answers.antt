@@ -1,13 +1,7 @@
-use Rattle.std.proofs.Common.{◌*◌, ◌≤◌, ap, ◌∙◌, mul-le-mul, arith, rules}
+use Rattle.std.proofs.Common.{◌*◌, ap, ◌∙◌}
 use Rattle.exchange.specs.Tables.{empties}
 use Rattle.exchange.proofs.Pages.{board_missing}
 use Rattle.exchange.proofs.board.BoardExchange.missing.Goals as goal
-
-pub overflow_mul-result : goal.overflow_mul-result
-overflow_mul-result g c =
-    let few : c.count_empty.result ≤ 31 = omega arith in
-    let small = mul-le-mul c.args.self.now.few few in
-    search rules
 
 pub returns : goal.returns
 returns g c =

@@ -1,12 +1,14 @@
-use Rattle.std.proofs.Common.{◌≡◌, ℕ, refl, arith, rules}
-use Rattle.ring.specs.Words.{same_words, same_element_words}
+use Rattle.std.proofs.Common.{ap, rules}
+use Rattle.std.proofs.lemmas.Bool.Decides.{Decides-eqb}
+use Rattle.std.proofs.lemmas.List.{ext_get_or}
+use Rattle.std.proofs.lemmas.Slice.Eq.{slice_eq-Decides}
+use Rattle.ring.specs.W4.{w4_element}
+use Rattle.ring.specs.Words.{same_words}
 use Rattle.ring.proofs.w4.ArrayU644Ring.same.Goals as goal
 
-pub returns-then-self-c : goal.returns-then-self-c
-returns-then-self-c c = (
-  λ e. let z : ◌≡◌ {A = ℕ} 0 1 = cc in let f : ⊥ = omega arith in absurd f,
-  λ e. absurd (c.if-self-c.true (same_words c.args.self c.args.other e c.loop-c.c c.loop-c-test.true (search rules) (search rules))),
-)
-
 pub returns : goal.returns
-returns c = (λ e. same_element_words c.args.self c.args.other (λ k h. c.loop-c.invariant k (omega arith)), λ e. refl)
+returns c =
+    let same = slice_eq-Decides Decides-eqb c.args.self c.args.other c.eq.result (search rules) in (
+      λ e. ap w4_element (same.0 e),
+      λ e. same.1 (ext_get_or 0 c.args.self c.args.other (search rules) (λ i h. same_words c.args.self c.args.other e i (search rules) (search rules) (search rules))),
+    )
