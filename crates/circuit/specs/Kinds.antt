@@ -3,7 +3,7 @@ use Rattle.std.specs.Prelude.{ℕ, zero, suc, List, Some, None, slice_index}
 use Rattle.encoding.specs.Numbers.{layout_of}
 use Rattle.encoding.specs.declared.layout.Layout.{Layout}
 use Rattle.encoding.specs.declared.layout.Layout.TheVariants.{Plain}
-use Rattle.circuit.specs.Codes.{kind_of, detail_of, first_of, second_of}
+use Rattle.circuit.specs.Codes.{Parts, kind_of, detail_of, first_of, second_of}
 use Rattle.circuit.specs.declared.kinds.Kind.{Kind}
 use Rattle.circuit.specs.declared.kinds.Kind.TheVariants as kind
 
@@ -48,6 +48,10 @@ gate_in kind.Out d a b = Out a
 -- the same, by the number of the kind
 abbrev pub gate_by : ℕ → ℕ → ℕ → ℕ → Gate
 gate_by k d a b = gate_in (kind_by k) d a b
+
+-- the same, by the four parts of a code
+abbrev pub gate_from : Parts → Gate
+gate_from p = gate_by p.0 p.1 p.2 p.3
 
 abbrev pub gate_of : ℕ → Gate
 gate_of code = gate_by (kind_of code) (detail_of code) (first_of code) (second_of code)

@@ -90,7 +90,7 @@ impl<R: Notation> AnyExchange<R> {
         ensures page { (result, page_of self.new) ≡ called (common_of (kind_of self.old)) (veiled_of (kind_of self.old)) (page_of self.old) call }
         ensures unchanged { OnErr result (page_of self.new ≡ page_of self.old) }
     {
-        // Four equal arms: no function may hand out the exchange of any kind as a dyn.
+        // Four equal arms: the cases differ in type, and a dyn made here would leave the four arms.
         match self {
             AnyExchange::Lines(exchange) => call.answer(exchange),
             AnyExchange::Board(exchange) => call.answer(exchange),

@@ -50,15 +50,21 @@ fn deal<'a, R: Notation>(heap: Global, mut words: Words<'a>) -> Result<Answer<R>
     let degree = words.number()?;
     let secret: R = words.element()?;
     let others: Vec<R> = words.elements(heap)?;
-    let mut shares = vec![in heap; R::zero(); seats.min(MOST_SEATS)]?;
-    curve::deal(
-        seats,
-        degree,
-        secret,
-        others.as_slice(),
-        shares.as_mut_slice(),
-    )?;
+    let shares = dealt(heap, seats, degree, secret, others.as_slice())?;
     Ok(Answer::Shares(shares))
+}
+
+// The shares that a polynomial deals: its value at zero and its other coefficients are given.
+pub(crate) fn dealt<'a, R: Notation>(
+    heap: Global,
+    seats: usize,
+    degree: usize,
+    secret: R,
+    others: &[R],
+) -> Result<Vec<R>, Trouble<'a>> {
+    let mut shares = vec![in heap; R::zero(); seats.min(MOST_SEATS)]?;
+    curve::deal(seats, degree, secret, others, shares.as_mut_slice())?;
+    Ok(shares)
 }
 
 fn open<'a, R: Notation>(heap: Global, mut words: Words<'a>) -> Result<Answer<R>, Trouble<'a>> {

@@ -49,6 +49,6 @@ pub(crate) fn put<T: Drop>(entries: &mut Vec<T>, number: usize, entry: T) -> Res
 }
 
 // A seat's part of a row.
-pub(crate) fn part_of<R: Notation>(row: &Vec<R>, seat: usize) -> Option<R> {
+pub(crate) fn part_of<R: Notation>(row: &[R], seat: usize) -> Option<R> {
     row.get(seat.saturating_sub(1)).copied()
 }

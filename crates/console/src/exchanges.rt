@@ -70,9 +70,9 @@ fn make<'a, R: Notation>(mut words: Words<'a>, desk: &mut Desk<R>) -> Result<Ans
     let word = words.word()?;
     let seats = words.number()?;
     words.end()?;
-    let Ok(kind) = word.parse::<Kind>() else {
-        return Err(Trouble::Line(Misread::Kind, word));
-    };
+    let kind = word
+        .parse::<Kind>()
+        .map_err(|_| Trouble::Line(Misread::Kind, word))?;
     desk.exchange = Some(AnyExchange::make(desk.heap, kind, seats)?);
     Ok(Answer::Done)
 }

@@ -3,7 +3,7 @@ ghost use Rattle.std.specs.Prelude.{◌≡◌, OnErr};
 ghost use Rattle.console.specs.Sessions.{AlikeDesks, AlikeNodes, Leaves};
 
 use crate::answer::Answer;
-use crate::curves::MOST_SEATS;
+use crate::curves::dealt;
 use crate::dealing::{Dealing, Pair, part_of, put};
 use crate::desk::Desk;
 use crate::notation::{Notation, read_number};
@@ -79,10 +79,11 @@ fn seats<'a, R: Notation>(
     let seats = words.number()?;
     words.end()?;
     if seats != desk.dealing.seats {
-        let threshold = desk.dealing.threshold;
-        desk.dealing = Dealing::new(desk.heap);
-        desk.dealing.seats = seats;
-        desk.dealing.threshold = threshold;
+        desk.dealing = Dealing {
+            seats,
+            threshold: desk.dealing.threshold,
+            ..Dealing::new(desk.heap)
+        };
     }
     Ok(Answer::Done)
 }
@@ -108,11 +109,11 @@ enum Form {
 
 impl Form {
     // The word `from` says that coefficients follow.
-    fn read<'a>(words: &mut Words<'a>) -> Result<Form, Trouble<'a>> {
-        if words.skip("from")? {
-            Ok(Form::Coefficients)
+    fn read(words: &mut Words<'_>) -> Form {
+        if words.skip("from") {
+            Form::Coefficients
         } else {
-            Ok(Form::Parts)
+            Form::Parts
         }
     }
 
@@ -130,9 +131,7 @@ impl Form {
             Form::Parts => Err(Trouble::Line(Misread::Parts, line)),
             Form::Coefficients => {
                 let (secret, others) = elements.as_slice().split_first().ok_or(Refusal::Length)?;
-                let mut shares = vec![in desk.heap; R::zero(); seats.min(MOST_SEATS)]?;
-                curve::deal(seats, degree, *secret, others, shares.as_mut_slice())?;
-                Ok(shares)
+                dealt(desk.heap, seats, degree, *secret, others)
             }
         }
     }
@@ -146,7 +145,7 @@ fn input<'a, R: Notation>(
 {
     let line = words.line();
     let number = words.number()?;
-    let form = Form::read(&mut words)?;
+    let form = Form::read(&mut words);
     let elements = words.elements(desk.heap)?;
     if number > desk.dealing.inputs.len() {
         return Err(Trouble::Line(Misread::Gap, line));
@@ -161,8 +160,8 @@ fn pair<'a, R: Notation>(mut words: Words<'a>, desk: &mut Desk<R>) -> Result<Ans
 {
     let line = words.line();
     let number = words.number()?;
-    let form = Form::read(&mut words)?;
-    if !words.skip("high")? {
+    let form = Form::read(&mut words);
+    if !words.skip("high") {
         return Err(Trouble::Line(Misread::High, line));
     }
     let high = words.elements_until(desk.heap, "low")?;
@@ -210,24 +209,24 @@ struct Gathered<R> {
 impl<R: Notation> Gathered<R> {
     fn new(
         heap: Global,
-        constants: &Vec<u64>,
+        constants: &[u64],
         dealing: &Dealing<R>,
         seat: usize,
     ) -> Result<Gathered<R>, AllocError> {
         let Dealing { inputs, pairs, .. } = dealing;
         Ok(Gathered {
-            constants: constants.clone()?,
+            constants: constants.to_vec(heap)?,
             inputs: inputs
                 .iter()
-                .filter_map(|row| part_of(row, seat))
+                .filter_map(|row| part_of(row.as_slice(), seat))
                 .collect(heap)?,
             high: pairs
                 .iter()
-                .filter_map(|pair| part_of(&pair.high, seat))
+                .filter_map(|pair| part_of(pair.high.as_slice(), seat))
                 .collect(heap)?,
             low: pairs
                 .iter()
-                .filter_map(|pair| part_of(&pair.low, seat))
+                .filter_map(|pair| part_of(pair.low.as_slice(), seat))
                 .collect(heap)?,
         })
     }
@@ -263,7 +262,7 @@ impl<R: Notation> Working<R> {
 fn make<'a, R: Notation>(seat: usize, desk: &mut Desk<R>) -> Result<Answer<R>, Trouble<'a>>
     ensures { OnErr result (desk.new ≡ desk.old) }
 {
-    let gathered = Gathered::new(desk.heap, &desk.constants, &desk.dealing, seat)?;
+    let gathered = Gathered::new(desk.heap, desk.constants.as_slice(), &desk.dealing, seat)?;
     let mut work = vec![in desk.heap; R::zero(); desk.codes.len()]?;
     let node = Node::make(
         desk.heap,
@@ -282,7 +281,12 @@ fn post<'a, R: Notation>(line: &'a str, desk: &Desk<R>) -> Result<Answer<R>, Tro
     let Some(working) = &desk.working else {
         return Err(Trouble::Line(Misread::Node, line));
     };
-    let gathered = Gathered::new(desk.heap, &desk.constants, &desk.dealing, working.seat)?;
+    let gathered = Gathered::new(
+        desk.heap,
+        desk.constants.as_slice(),
+        &desk.dealing,
+        working.seat,
+    )?;
     Ok(working.post(&gathered)?)
 }
 
@@ -296,6 +300,11 @@ fn take<'a, R: Notation>(
     let Some(working) = &mut desk.working else {
         return Err(Trouble::Line(Misread::Node, line));
     };
-    let gathered = Gathered::new(desk.heap, &desk.constants, &desk.dealing, working.seat)?;
+    let gathered = Gathered::new(
+        desk.heap,
+        desk.constants.as_slice(),
+        &desk.dealing,
+        working.seat,
+    )?;
     Ok(working.take(&gathered, row)?)
 }

@@ -33,12 +33,14 @@ pub(crate) enum Misread {
 #[derive(Clone, Copy)]
 pub(crate) enum Trouble<'a> {
     Line(Misread, &'a str),
+    // Not `Refused(Refusal::Memory)`: this one comes before anything is changed, so the session is the very same, and that one is
+    // a call's own answer.
     Memory,
     Refused(Refusal),
 }
 
-// A word that names nothing of its kind. Each kind of command reads its own words by a match: one function over a table of names
-// would list the variants twice.
+// A word that names nothing of its kind. Each kind reads its own words by a match, which the check goes through case by case: a
+// table of names would be longer and say less.
 #[derive(Clone, Copy, Debug, PartialEq, Eq)]
 pub(crate) struct Unknown;
 

@@ -2,12 +2,13 @@
 use crate::notation::{Notation, read_code, read_number};
 use crate::trouble::{Misread, Trouble};
 use std::alloc::Global;
+use std::iter::Peekable;
 use std::str::SplitWhitespace;
 
 #[derive(Drop)]
 pub(crate) struct Words<'a> {
     line: &'a str,
-    rest: SplitWhitespace<'a>,
+    rest: Peekable<SplitWhitespace<'a>>,
 }
 
 // The part of a line before its comment.
@@ -19,7 +20,7 @@ impl<'a> Words<'a> {
     pub(crate) fn new(line: &'a str) -> Words<'a> {
         Words {
             line,
-            rest: line.split_whitespace(),
+            rest: line.split_whitespace().peekable(),
         }
     }
 
@@ -51,13 +52,8 @@ impl<'a> Words<'a> {
     }
 
     // Passes over the next word if it is this one.
-    pub(crate) fn skip(&mut self, word: &str) -> Result<bool, Trouble<'a>> {
-        let mut ahead = self.rest.clone()?;
-        let found = ahead.next() == Some(word);
-        if found {
-            self.rest = ahead;
-        }
-        Ok(found)
+    pub(crate) fn skip(&mut self, word: &'a str) -> bool {
+        self.rest.next_if_eq(&word).is_some()
     }
 
     // The words up to this one, each an element.
@@ -66,6 +62,7 @@ impl<'a> Words<'a> {
         heap: Global,
         end: &str,
     ) -> Result<Vec<R>, Trouble<'a>> {
+        // No chain, as in `elements`.
         let mut all = Vec::new(heap);
         for word in self.rest.by_ref() {
             if word == end {

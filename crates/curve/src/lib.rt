@@ -82,7 +82,8 @@ fn factor<R: Ring>(m: usize, i: usize, x: R) -> R
     product
 }
 
-// The value at x of the polynomial through the first m words.
+// The value at x of the polynomial through the first m words of a row. Not of a part of it: opening speaks of the words of the
+// whole row, also of the polynomial through the first ones.
 fn interpolated<R: Ring>(row: &[R], m: usize, x: R) -> R
     requires { m ≤ length row.now }
     ensures { R.Ring.element result ≡ lagrange (K R.Ring) m (λ k. R.Ring.points.at (k + 1)) (λ k l. R.Ring.points.inv (k + 1) (l + 1)) (word R.Ring row.now) (R.Ring.element x) }

@@ -8,9 +8,9 @@ use Rattle.curve.specs.Curve.{seats_wrong}
 use Rattle.curve.specs.declared.refusal.Refusal.{Refusal}
 use Rattle.curve.specs.declared.refusal.Refusal.TheVariants.{Seats, Length, Placed, Seat}
 use Rattle.exchange.specs.Sheet.{Page, seat, some, total, written, outcome, sent, all_refused, one_refused, place_all, place_one, missing, set_seats}
-use Rattle.exchange.specs.Tables.{table_page, lines_page, board_page, held, empties, filled}
+use Rattle.exchange.specs.Tables.{table_page, lines_page, board_page}
 use Rattle.exchange.proofs.Places.{outside_all, outside_one, row_of, square_of, column_of, row_within}
-use Rattle.exchange.proofs.Counts.{seat_up, some_same, some_constant, total_same, total_constant, total_times, total_rows}
+use Rattle.exchange.proofs.Counts.{seat_up, some_same, some_constant, total_same, total_constant, total_times, total_rows, held_part, empties_first, filled}
 
 or_false : (b : Bool) → (b || false) ≡ b
 or_false true = refl
@@ -94,10 +94,10 @@ module _ {R : Type 0} where
   page_sent : (place : ℕ → ℕ → ℕ) (n : ℕ) (xs : List (Option R)) (s : ℕ) → seat n s ≡ true → sent (table_page place n xs) s ≡ some n (λ r. is_some (get_or xs (place r s) None))
   page_sent place n xs s is = some_same n _ _ (λ r under. ap is_some (page_at place n xs (suc r) s (seat_up n r under) is))
 
-  pub lines_missing : (n : ℕ) (xs : List (Option R)) → empties xs (n * n) ≡ missing (lines_page n xs)
+  pub lines_missing : (n : ℕ) (xs : List (Option R)) → empties_first xs (n * n) ≡ missing (lines_page n xs)
   lines_missing n xs = total_rows n n (λ k. cond (is_some (get_or xs k None)) 0 1) ∙ sym (page_missing (λ r s. pred s * n + pred r) n xs)
 
-  pub board_missing : (n : ℕ) (xs : List (Option R)) → n * empties xs n ≡ missing (board_page n xs)
+  pub board_missing : (n : ℕ) (xs : List (Option R)) → n * empties_first xs n ≡ missing (board_page n xs)
   board_missing n xs =
       sym (total_times n n (λ s. cond (is_some (get_or xs (pred s) None)) 0 1))
       ∙ total_same n _ _ (λ s below. sym (total_constant n (cond (is_some (get_or xs s None)) 0 1)))
@@ -107,9 +107,9 @@ module _ {R : Type 0} where
   placed_all : (place : ℕ → ℕ → ℕ) (n s : ℕ) (xs ws : List (Option R)) (start count : ℕ) (w : R) (r : Result (Unit {0}) Refusal)
       → seat n s ≡ true
       → start + count ≤ length xs
-      → held xs start count ≡ some n (λ p. is_some (get_or xs (place p s) None))
+      → held_part xs start count ≡ some n (λ p. is_some (get_or xs (place p s) None))
       → ((p q : ℕ) → (seat n p && seat n q) ≡ true → (leb start (place p q) && ltb (place p q) (start + count)) ≡ (seat n p && eqb q s))
-      → ◌≡◌ {A = Result (Unit {0}) Refusal × List (Option R)} (r, ws) (outcome (cond (held xs start count) (Some Placed) None) xs (filled xs start count (Some w)))
+      → ◌≡◌ {A = Result (Unit {0}) Refusal × List (Option R)} (r, ws) (outcome (cond (held_part xs start count) (Some Placed) None) xs (filled xs start count (Some w)))
       → ◌≡◌ {A = Result (Unit {0}) Refusal × Page R} (r, table_page place n ws) (place_all (table_page place n xs) s w)
   placed_all place n s xs ws start count w r is within same squares done =
       outcome_like (table_page place n) _ (all_refused (table_page place n xs) s) r xs ws (filled xs start count (Some w)) _ done
@@ -121,18 +121,18 @@ module _ {R : Type 0} where
       → seat n s ≡ true
       → n * n ≤ length xs
       → start ≡ pred s * n + 0
-      → ◌≡◌ {A = Result (Unit {0}) Refusal × List (Option R)} (r, ws) (outcome (cond (held xs start n) (Some Placed) None) xs (filled xs start n (Some w)))
+      → ◌≡◌ {A = Result (Unit {0}) Refusal × List (Option R)} (r, ws) (outcome (cond (held_part xs start n) (Some Placed) None) xs (filled xs start n (Some w)))
       → ◌≡◌ {A = Result (Unit {0}) Refusal × Page R} (r, lines_page n ws) (place_all (lines_page n xs) s w)
   lines_all n s xs ws start w r is room at done =
       placed_all (λ p q. pred q * n + pred p) n s xs ws (pred s * n) n w r is (omega (arith, row_within n s is)) refl (λ p q. row_of n s p q is)
-      (done ∙ ap (λ j. outcome (cond (held xs j n) (Some Placed) None) xs (filled xs j n (Some w))) (at ∙ add-zero (pred s * n)))
+      (done ∙ ap (λ j. outcome (cond (held_part xs j n) (Some Placed) None) xs (filled xs j n (Some w))) (at ∙ add-zero (pred s * n)))
 
   -- a board: the sender's place is filled
   pub board_all : (n s : ℕ) (xs ws : List (Option R)) (start : ℕ) (w : R) (r : Result (Unit {0}) Refusal)
       → seat n s ≡ true
       → n ≤ length xs
       → start ≡ pred s
-      → ◌≡◌ {A = Result (Unit {0}) Refusal × List (Option R)} (r, ws) (outcome (cond (held xs start 1) (Some Placed) None) xs (filled xs start 1 (Some w)))
+      → ◌≡◌ {A = Result (Unit {0}) Refusal × List (Option R)} (r, ws) (outcome (cond (held_part xs start 1) (Some Placed) None) xs (filled xs start 1 (Some w)))
       → ◌≡◌ {A = Result (Unit {0}) Refusal × Page R} (r, board_page n ws) (place_all (board_page n xs) s w)
   board_all n s xs ws start w r is room at done =
       let some-seat : 0 < n = grind (arith, nat_tests) in
@@ -140,7 +140,7 @@ module _ {R : Type 0} where
       placed_all (λ p q. pred q) n s xs ws (pred s) 1 w r is within
       (or_false (is_some (get_or xs (pred s + 0) None)) ∙ ap (λ j. is_some (get_or xs j None)) (add-zero (pred s)) ∙ sym (some_constant n (is_some (get_or xs (pred s) None)) some-seat))
       (λ p q. column_of n s p q is)
-      (done ∙ ap (λ j. outcome (cond (held xs j 1) (Some Placed) None) xs (filled xs j 1 (Some w))) at)
+      (done ∙ ap (λ j. outcome (cond (held_part xs j 1) (Some Placed) None) xs (filled xs j 1 (Some w))) at)
 
   -- lines: the place of one square is filled
   pub lines_one : (n s t : ℕ) (xs ws : List (Option R)) (start : ℕ) (w : R) (r : Result (Unit {0}) Refusal)
@@ -148,12 +148,12 @@ module _ {R : Type 0} where
       → seat n t ≡ true
       → n * n ≤ length xs
       → start ≡ pred s * n + pred t
-      → ◌≡◌ {A = Result (Unit {0}) Refusal × List (Option R)} (r, ws) (outcome (cond (held xs start 1) (Some Placed) None) xs (filled xs start 1 (Some w)))
+      → ◌≡◌ {A = Result (Unit {0}) Refusal × List (Option R)} (r, ws) (outcome (cond (held_part xs start 1) (Some Placed) None) xs (filled xs start 1 (Some w)))
       → ◌≡◌ {A = Result (Unit {0}) Refusal × Page R} (r, lines_page n ws) (place_one false (lines_page n xs) s t w)
   lines_one n s t xs ws start w r sends takes room at done =
       let within : (pred s * n + pred t) + 1 ≤ length xs = let row = row_within n s sends in grind (arith, nat_tests) in
       outcome_like (lines_page n) _ (one_refused false (lines_page n xs) s t) r xs ws (filled xs (pred s * n + pred t) 1 (Some w)) _
-      (done ∙ ap (λ j. outcome (cond (held xs j 1) (Some Placed) None) xs (filled xs j 1 (Some w))) at)
+      (done ∙ ap (λ j. outcome (cond (held_part xs j 1) (Some Placed) None) xs (filled xs j 1 (Some w))) at)
       (ap (λ b. cond b (Some Placed) None)
       (or_false (is_some (get_or xs (pred s * n + pred t + 0) None))
       ∙ ap (λ j. is_some (get_or xs j None)) (add-zero (pred s * n + pred t))

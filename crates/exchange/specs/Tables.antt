@@ -1,5 +1,5 @@
 -- The pages that tables of words stand for.
-use Rattle.std.specs.Prelude.{ℕ, zero, suc, pred, ◌+◌, ◌*◌, Bool, cond, ◌&&◌, List, length, is_some, None, Option, slice_index_or, slice_set}
+use Rattle.std.specs.Prelude.{ℕ, pred, ◌+◌, ◌*◌, Bool, cond, ◌&&◌, List, length, is_some, None, Option, slice_index_or}
 use Rattle.exchange.specs.Sheet.{Page, seat, some, total}
 
 -- n seats, where the square of r and s is a place of the table
@@ -14,15 +14,10 @@ lines_page n = table_page (λ r s. pred s * n + pred r) n
 abbrev pub board_page : {R : Type 0} → ℕ → List (Option R) → Page R
 board_page n = table_page (λ r s. pred s) n
 
--- one of the places from start on, so many of them, is filled
-abbrev pub held : {R : Type 0} → List (Option R) → ℕ → ℕ → Bool
-held table start count = some count (λ k. is_some (slice_index_or table (start + pred k) None))
+-- one of the squares is filled
+abbrev pub held : {R : Type 0} → List (Option R) → Bool
+held squares = some (length squares) (λ k. is_some (slice_index_or squares (pred k) None))
 
--- how many of the first places are empty
-abbrev pub empties : {R : Type 0} → List (Option R) → ℕ → ℕ
-empties table count = total count (λ k. cond (is_some (slice_index_or table (pred k) None)) 0 1)
-
--- the value o at the places from start on, so many of them
-abbrev pub filled : {R : Type 0} → List (Option R) → ℕ → ℕ → Option R → List (Option R)
-filled table start zero o = table
-filled table start (suc k) o = slice_set (filled table start k o) (start + k) o
+-- how many squares are empty
+abbrev pub empties : {R : Type 0} → List (Option R) → ℕ
+empties squares = total (length squares) (λ k. cond (is_some (slice_index_or squares (pred k) None)) 0 1)

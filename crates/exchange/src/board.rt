@@ -53,7 +53,8 @@ impl<R: Ring> Exchange<R> for Board<R> {
 
     fn place_for_all(&mut self, sender: usize, word: R) -> Result<(), Refusal> {
         test_seat(self.seats, sender)?;
-        place(&mut self.table, sender - 1, 1, word)
+        let square = sender - 1;
+        place(&mut self.table[square..=square], word)
     }
 
     fn place_for_one(&mut self, sender: usize, receiver: usize, _word: R) -> Result<(), Refusal> {
@@ -69,7 +70,7 @@ impl<R: Ring> Exchange<R> for Board<R> {
     }
 
     fn missing(&self) -> usize {
-        self.seats * count_empty(&self.table, self.seats)
+        self.seats * count_empty(&self.table[..self.seats])
     }
 
     fn turn(&mut self) {

@@ -64,14 +64,14 @@ impl<R: Ring> Exchange<R> for Lines<R> {
     fn place_for_all(&mut self, sender: usize, word: R) -> Result<(), Refusal> {
         test_seat(self.seats, sender)?;
         let start = place_of(self.seats, 1, sender);
-        place(&mut self.table, start, self.seats, word)
+        place(&mut self.table[start..start + self.seats], word)
     }
 
     fn place_for_one(&mut self, sender: usize, receiver: usize, word: R) -> Result<(), Refusal> {
         test_seat(self.seats, sender)?;
         test_seat(self.seats, receiver)?;
-        let start = place_of(self.seats, receiver, sender);
-        place(&mut self.table, start, 1, word)
+        let square = place_of(self.seats, receiver, sender);
+        place(&mut self.table[square..=square], word)
     }
 
     fn look(&self, receiver: usize, sender: usize) -> Result<Option<R>, Refusal> {
@@ -81,7 +81,7 @@ impl<R: Ring> Exchange<R> for Lines<R> {
     }
 
     fn missing(&self) -> usize {
-        count_empty(&self.table, self.seats * self.seats)
+        count_empty(&self.table[..self.seats * self.seats])
     }
 
     fn turn(&mut self) {

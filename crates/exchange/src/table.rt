@@ -1,9 +1,9 @@
 // Tables of words, of which an exchange uses a part.
-ghost use Rattle.std.specs.Prelude.{◌≡◌, ℕ, ◌+◌, ◌≤◌, length, replicate, nat_le, if◌then◌else◌, Some, None, Ok, Err};
+ghost use Rattle.std.specs.Prelude.{◌≡◌, ℕ, ◌≤◌, length, replicate, nat_le, if◌then◌else◌, Some, None, Ok, Err};
 ghost use Rattle.curve.specs.declared.refusal.Refusal.TheVariants.{Length, Placed, Seat, Seats};
 ghost use Rattle.curve.specs.Curve.{seats_wrong};
 ghost use Rattle.exchange.specs.Sheet.{seat, outcome};
-ghost use Rattle.exchange.specs.Tables.{held, empties, filled};
+ghost use Rattle.exchange.specs.Tables.{held, empties};
 
 use curve::refusal::Refusal;
 use curve::test_seats;
@@ -19,26 +19,18 @@ pub(crate) fn test_seat(n: usize, k: usize) -> Result<(), Refusal>
     Ok(())
 }
 
-// How many of the first places are empty.
-pub(crate) fn count_empty<R: Copy>(table: &[Option<R>], count: usize) -> usize
-    requires { count ≤ length table.now }
-    ensures sum { result ≡ empties table.now count }
-    ensures few { result ≤ count }
+// How many squares are empty.
+pub(crate) fn count_empty<R: Copy>(squares: &[Option<R>]) -> usize
+    ensures sum { result ≡ empties squares.now }
+    ensures few { result ≤ length squares.now }
 {
-    table[..count].iter().filter(|o| o.is_none()).count()
+    squares.iter().filter(|o| o.is_none()).count()
 }
 
-// Writes a word at the places from `start` on, all of which are to be empty.
-pub(crate) fn place<R: Copy>(
-    table: &mut [Option<R>],
-    start: usize,
-    count: usize,
-    word: R,
-) -> Result<(), Refusal>
-    requires { start + count ≤ length table.old }
-    ensures { (result, table.new) ≡ outcome (if held table.old start count then Some Placed else None) table.old (filled table.old start count (Some word)) }
+// Writes a word into squares, all of which are to be empty.
+pub(crate) fn place<R: Copy>(squares: &mut [Option<R>], word: R) -> Result<(), Refusal>
+    ensures { (result, squares.new) ≡ outcome (if held squares.old then Some Placed else None) squares.old (replicate (length squares.old) (Some word)) }
 {
-    let squares = &mut table[start..start + count];
     if squares.iter().any(Option::is_some) {
         return Err(Refusal::Placed);
     }

@@ -24,8 +24,8 @@ pub mod openings;
 pub mod seat;
 pub mod work;
 
-// The tables that a node is lent at a call: the constants, and its parts of the inputs and of the pairs. By the rules the high
-// and the low parts are two tables.
+// The tables that a node is lent at a call: the constants, and its parts of the inputs and of the pairs. High and low parts are two
+// tables, since they are dealt, lent and read apart.
 #[derive(Clone, Copy, Debug)]
 pub struct Lent<'a, R> {
     pub constants: &'a [u64],

@@ -95,7 +95,7 @@ impl Ring for [u64; 4] {
     }
 
     fn coordinate(self, place: usize) -> u64 {
-        if place < 4 { self[place] } else { 0 }
+        self.get(place).copied().unwrap_or(0)
     }
 
     fn embed(value: u64, place: usize) -> [u64; 4] {

@@ -1,6 +1,6 @@
 // The rules of single gates. They are the same for shares and for values.
 ghost use Rattle.std.specs.Prelude.{◌≡◌, ℕ, ◌<◌, List, [], map, length, replicate, slice_index, slice_index_or};
-ghost use Rattle.circuit.specs.Kinds.{gate_by};
+ghost use Rattle.circuit.specs.Kinds.{gate_from};
 ghost use Rattle.curve.specs.Curve.{K, listed, word as word_at};
 ghost use Rattle.encoding.specs.Layouts.{positions, read_at};
 ghost use Rattle.ring.specs.Model.{degree};
@@ -100,7 +100,7 @@ fn kept<R: Ring, M: Methods>(method: u32, product: R) -> R
 // The word that is shown at a gate: a product less the high part of its pair, or an output; zero at any other gate.
 // A gate comes as four numbers by a rule of the project: a code is split into a four-part tuple.
 pub fn word_of<R: Ring>(gate: (u32, u32, u32, u32), entries: &[R], high: R) -> R
-    ensures { R.Ring.element result ≡ word (K R.Ring) (parts (λ i. (K R.Ring).𝟎) (R.Ring.element high) (K R.Ring).𝟎) 0 (word_at R.Ring entries.now) (gate_by gate.0 gate.1 gate.2 gate.3) }
+    ensures { R.Ring.element result ≡ word (K R.Ring) (parts (λ i. (K R.Ring).𝟎) (R.Ring.element high) (K R.Ring).𝟎) 0 (word_at R.Ring entries.now) (gate_from gate) }
 {
     let (kind, _, first, second) = gate;
     let left = entry_at(entries, first as usize);
@@ -122,7 +122,7 @@ pub fn entry_of<R: Ring, M: Methods>(
     entries: &[R],
     opened: Opened<R>,
 ) -> R
-    ensures { R.Ring.element result ≡ after (K R.Ring) (known R.Ring.shape M.Methods.method constants.now) (parts (word_at R.Ring inputs.now) (K R.Ring).𝟎 (R.Ring.element opened.low)) 0 (word_at R.Ring entries.now) layout (R.Ring.element opened.value) (gate_by gate.0 gate.1 gate.2 gate.3) }
+    ensures { R.Ring.element result ≡ after (K R.Ring) (known R.Ring.shape M.Methods.method constants.now) (parts (word_at R.Ring inputs.now) (K R.Ring).𝟎 (R.Ring.element opened.low)) 0 (word_at R.Ring entries.now) layout (R.Ring.element opened.value) (gate_from gate) }
 {
     let (kind, detail, first, second) = gate;
     let (first, second) = (first as usize, second as usize);

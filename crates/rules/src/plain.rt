@@ -1,6 +1,6 @@
 // Plain evaluation: every gate's value, with nothing shared.
 ghost use Rattle.std.specs.Prelude.{◌≡◌, ◌&&◌, map, length, MatchResult, ◌==◌, slice_index};
-ghost use Rattle.circuit.specs.Kinds.{gate_by};
+ghost use Rattle.circuit.specs.Kinds.{gate_from};
 ghost use Rattle.curve.specs.Curve.{K, listed, word as word_at};
 ghost use Rattle.encoding.specs.Layouts.{positions, read_at};
 ghost use Rattle.ring.specs.Model.{degree};
@@ -39,7 +39,7 @@ fn value_of<R: Ring, M: Methods>(
     inputs: &[R],
     values: &[R],
 ) -> R
-    ensures { R.Ring.element result ≡ clear_gate R.Ring.shape M.Methods.method constants.now (word_at R.Ring inputs.now) layout (word_at R.Ring values.now) (gate_by gate.0 gate.1 gate.2 gate.3) }
+    ensures { R.Ring.element result ≡ clear_gate R.Ring.shape M.Methods.method constants.now (word_at R.Ring inputs.now) layout (word_at R.Ring values.now) (gate_from gate) }
 {
     let (kind, _, first, _) = gate;
     if Kind::from(kind) == Kind::In {

@@ -1,9 +1,11 @@
-use Rattle.std.proofs.Common.{◌*◌, ap, ◌∙◌}
+use Rattle.std.proofs.Common.{◌*◌, ap, ◌∙◌, take, arith}
 use Rattle.exchange.specs.Tables.{empties}
+use Rattle.exchange.proofs.Counts.{empties_of_part}
 use Rattle.exchange.proofs.Pages.{lines_missing}
 use Rattle.exchange.proofs.lines.LinesExchange.missing.Goals as goal
 
 pub returns : goal.returns
 returns g c =
     let n = c.args.self.now.seats in
-    c.count_empty.ensures.sum ∙ ap (λ l. empties l (n * n)) c.deref.ensures.value ∙ lines_missing n c.args.self.now.table.items
+    let table = c.args.self.now.table.items in
+    c.count_empty.ensures.sum ∙ ap (λ l. empties (take (n * n) l)) c.deref.ensures.value ∙ empties_of_part table (n * n) (omega arith) ∙ lines_missing n table
