@@ -27,6 +27,36 @@ fn lacks_two(number: usize) -> bool
     number == 0 || number % 3 != 2 && lacks_two(number / 3)
 }
 
+// How many numbers below `end` lack the digit 2. One loop, here and in `find_lane`: a chain over `filter` is two, which the
+// compiler does not unroll where the degree is known.
+fn count_lanes(end: usize) -> usize
+    ensures { result ≡ length (filter no_two (range_with_len 0 end)) }
+{
+    let mut count = 0;
+    for p in 0..end {
+        if lacks_two(p) {
+            count += 1;
+        }
+    }
+    count
+}
+
+// The number at place `lane` among those below `end` that lack the digit 2, or `other`.
+fn find_lane(end: usize, lane: usize, other: usize) -> usize
+    ensures { result ≡ slice_index_or (filter no_two (range_with_len 0 end)) lane other }
+{
+    let mut count = 0;
+    for p in 0..end {
+        if lacks_two(p) {
+            if count == lane {
+                return p;
+            }
+            count += 1;
+        }
+    }
+    other
+}
+
 impl TryFrom<u32> for Layout {
     type Error = NoNumber;
 
@@ -63,7 +93,7 @@ impl Layout {
         let end = half_of(degree);
         match self {
             Layout::Plain => 1,
-            Layout::Lanes => (0..end).filter(|&p| lacks_two(p)).count(),
+            Layout::Lanes => count_lanes(end),
             Layout::Left | Layout::Right => end,
         }
     }
@@ -75,10 +105,7 @@ impl Layout {
         let end = half_of(degree);
         match self {
             Layout::Plain if lane == 0 => 0,
-            Layout::Lanes => (0..end)
-                .filter(|&p| lacks_two(p))
-                .nth(lane)
-                .unwrap_or(degree),
+            Layout::Lanes => find_lane(end, lane, degree),
             Layout::Left if lane < end => lane,
             Layout::Right if lane < end => end - 1 - lane,
             _ => degree,

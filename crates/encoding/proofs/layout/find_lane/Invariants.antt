@@ -1,0 +1,6 @@
+use Rattle.std.proofs.Common.{◌≤◌}
+use Rattle.encoding.specs.Search.{Seen}
+use Rattle.encoding.proofs.layout.find_lane.Given as goal
+
+abbrev pub invariant-loop-p : goal.invariant-loop-p
+invariant-loop-p l = Seen l.p l.count × (l.count ≤ l.lane)
