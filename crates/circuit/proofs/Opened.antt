@@ -1,10 +1,8 @@
 -- The openings of a list, gate by gate.
-use Rattle.std.proofs.Common.{◌≡◌, ℕ, zero, suc, ◌+◌, ◌<◌, ◌≤◌, Bool, cond, eqb, List, [], ◌∷◌, ◌++◌, length, get_or, take, sym, refl, ap, ◌∙◌, ap₂, add-zero, add-one, arith, length-append}
-use Rattle.std.specs.List.{count_by}
-use Rattle.std.proofs.lemmas.List.{append-nil, take_all}
-use Rattle.std.proofs.lemmas.List.Sums.{sum_by_more}
+use Rattle.std.proofs.Common.{◌≡◌, ℕ, suc, ◌+◌, ◌≤◌, List, [], ◌∷◌, ◌++◌, length, get_or, sym, refl, ap, ◌∙◌, ap₂, add-zero, add-one, arith, length-append}
+use Rattle.std.proofs.lemmas.List.{append-nil}
 use Rattle.circuit.specs.Codes.{kind_of, detail_of, first_of, second_of}
-use Rattle.circuit.specs.Kinds.{Gate, In, Add, Sub, Scale, Offset, Place, Mul, Out, kind_by, gate_in, gate_of, gate_at}
+use Rattle.circuit.specs.Kinds.{Gate, kind_by, gate_in, gate_at}
 use Rattle.circuit.specs.Openings.{product_count, output_count, products, outputs, opening_by, openings_before, openings_of}
 use Rattle.circuit.specs.declared.kinds.Kind.{Kind}
 use Rattle.circuit.specs.declared.kinds.Kind.TheVariants as kind
@@ -85,31 +83,3 @@ module _ {codes : List ℕ} {g : ℕ} {items : List Opening} {pair number : ℕ}
 
 pub found_all : {codes : List ℕ} {g : ℕ} {items : List Opening} {pair number : ℕ} → Found codes g items pair number → g ≤ length codes → length codes ≤ g → items ≡ openings_of codes
 found_all {codes} {g} f low high = f.are ∙ ap (openings_before codes) (let same : g ≡ length codes = omega arith in same)
-
--- products counted from the codes
-abbrev pub is_product : ℕ → Bool
-is_product code = eqb (product_count (gate_of code)) 1
-
-one_product : (gate : Gate) → cond (eqb (product_count gate) 1) 1 0 ≡ product_count gate
-one_product (In l i) = refl
-one_product (Add a b) = refl
-one_product (Sub a b) = refl
-one_product (Scale a c) = refl
-one_product (Offset a c) = refl
-one_product (Place l a k) = refl
-one_product (Mul m a b) = refl
-one_product (Out a) = refl
-
-counted_to : (codes : List ℕ) (g : ℕ) → g ≤ length codes → count_by is_product (take g codes) ≡ products codes g
-counted_to codes zero h = refl
-counted_to codes (suc g) h =
-    let less : g < length codes = omega arith in
-    let before : g ≤ length codes = omega arith in
-    ap (λ n. count_by is_product (take n codes)) (sym (add-one g))
-    ∙ sum_by_more (λ x. cond (is_product x) 1 0) codes g 0 less
-    ∙ ap₂ ◌+◌ (counted_to codes g before) (one_product (gate_at codes g))
-
-pub counted : (codes : List ℕ) → count_by is_product codes ≡ products codes (length codes)
-counted codes =
-    let whole : length codes ≤ length codes = omega arith in
-    ap (count_by is_product) (sym (take_all (length codes) codes whole)) ∙ counted_to codes (length codes) whole

@@ -6,7 +6,7 @@ ghost use Rattle.circuit.specs.Openings.{openings_of, products};
 ghost use Rattle.circuit.specs.Circuits.{Plan, plan, circuit_of, Refused};
 
 use crate::gates::{code_at, layout_of};
-use crate::lists::check_list;
+use crate::lists::{MOST, check_list};
 use crate::openings::{Opening, count_products, openings_of};
 use crate::split;
 use curve::refusal::Refusal;
@@ -52,7 +52,9 @@ impl Circuit {
     ) -> Result<Circuit, Refusal>
         ensures { MatchResult result (λ c. circuit_of (setting_for limits M.Methods.method) codes.now ≡ Ok c) (λ e. Refused (setting_for limits M.Methods.method) codes.now e) }
     {
-        let layouts = check_list::<M>(limits, codes)?;
+        // A list is judged before memory is asked for, so the layouts stand in a fixed table.
+        let mut layouts = [Layout::Plain; MOST];
+        check_list::<M>(limits, codes, &mut layouts)?;
         Ok(Circuit {
             codes: Vec::from_slice(heap, codes)?,
             layouts: Vec::from_slice(heap, &layouts[..codes.len()])?,

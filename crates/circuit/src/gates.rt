@@ -42,13 +42,19 @@ fn input_agrees(code: u32, input: u32, layout: Layout) -> bool
     Kind::from(kind) != Kind::In || first != input || layout_named(detail) == layout
 }
 
+// The codes of the gates before this one: a slice, for a loop over `take` tests for two ends at each code.
+fn codes_before(codes: &[u32], gate: usize) -> &[u32]
+    ensures { result.now ≡ take gate codes.now }
+{
+    &codes[..gate.min(codes.len())]
+}
+
 // Whether no gate before this one has given the input another layout.
 fn inputs_agree(codes: &[u32], gate: usize, input: u32, layout: Layout) -> bool
     ensures { result ≡ agrees (take gate codes.now) input layout }
 {
-    codes
+    codes_before(codes, gate)
         .iter()
-        .take(gate)
         .all(|code| input_agrees(*code, input, layout))
 }
 

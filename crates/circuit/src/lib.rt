@@ -11,7 +11,7 @@ use encoding::layout::Layout;
 pub mod checked;
 mod gates;
 pub mod kinds;
-mod lists;
+pub mod lists;
 pub mod openings;
 
 // A gate code taken apart into kind, detail, first and second.
