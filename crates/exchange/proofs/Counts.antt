@@ -1,12 +1,12 @@
 -- Sums and tests over the seats 1 to n, and what the loops over tables keep.
-use Rattle.std.proofs.Common.{Some, Ok, Err, Result, ◌-◌, MatchBool, replicate, set, [], ◌++◌, not, take, drop, filter, count_by, ◌≤◌, ◌≡◌, ℕ, zero, suc, pred, ◌+◌, ◌*◌, ◌<◌, Bool, true, false, cond, ◌||◌, List, length, get_or, is_some, None, Option, sym, refl, ap, ◌∙◌, ap₂, inl, inr, add-zero, add_assoc, add-suc, suc-mul, mul-zero, zero-add, zero-mul, mul-add, add-one, arith}
+use Rattle.std.proofs.Common.{Some, Ok, Err, Result, ◌-◌, MatchBool, replicate, set, [], ◌++◌, not, take, drop, count_by, ◌≤◌, ◌≡◌, ℕ, zero, suc, pred, ◌+◌, ◌*◌, ◌<◌, Bool, true, false, cond, ◌||◌, List, length, get_or, is_some, None, Option, sym, refl, ap, ◌∙◌, ap₂, inl, inr, add-zero, add_assoc, add-suc, suc-mul, mul-zero, zero-add, zero-mul, mul-add, add-one, arith}
 use Rattle.std.specs.List.{HoldsAt, AllWithin}
 use Rattle.std.proofs.lemmas.List.{get_or-take, get_or-drop, length-take, length-drop, length-replicate, take-append-drop, take_all, drop_all, append-nil}
 use Rattle.std.proofs.lemmas.List.Edits.{paste_none, paste_all, fill_from_more}
 use Rattle.std.proofs.lemmas.Slice.{put_mid-paste}
 use borrow.Rule.Slice.PartMut.{put_mid}
 use lib.Seq.{paste}
-use Rattle.std.proofs.lemmas.List.Sums.{sum_by_more, length-filter}
+use Rattle.std.proofs.lemmas.List.Sums.{sum_by_more}
 use Rattle.std.proofs.lemmas.Bool.{or_from, or_left, or_right, cases_eq}
 use Rattle.std.proofs.lemmas.Bool.Decides.{nat_tests}
 use Rattle.curve.specs.declared.refusal.Refusal.{Refusal}
@@ -143,11 +143,10 @@ module _ {R : Type 0} (table : List (Option R)) where
   one_less true n = omega arith
   one_less false n = omega arith
 
-  -- how many places `filter` passes
-  pub empties_is : length (filter (λ o. not (is_some o)) table) ≡ empties table
+  -- how many places hold nothing
+  pub empties_is : count_by (λ o. not (is_some o)) table ≡ empties table
   empties_is =
-      length-filter (λ o. not (is_some o)) table
-      ∙ ap (count_by (λ o. not (is_some o))) (sym (take_all (length table) table (omega arith)))
+      ap (count_by (λ o. not (is_some o))) (sym (take_all (length table) table (omega arith)))
       ∙ counted (length table) (omega arith)
     where
       counted : (n : ℕ) → n ≤ length table → count_by (λ o. not (is_some o)) (take n table) ≡ empties_first table n

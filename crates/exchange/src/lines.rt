@@ -5,7 +5,7 @@ ghost use Rattle.exchange.specs.Tables.{lines_page};
 ghost use Rattle.std.proofs.Common.{rules, arith};
 
 use crate::Exchange;
-use crate::table::{clear_for, count_empty, place, test_seat};
+use crate::table::{clear, clear_for, count_empty, place, test_seat};
 use curve::refusal::Refusal;
 use ring::Ring;
 
@@ -85,7 +85,7 @@ impl<R: Ring> Exchange<R> for Lines<R> {
     }
 
     fn turn(&mut self) {
-        self.table.fill(None);
+        clear(&mut self.table);
     }
 
     fn set_seats(&mut self, n: usize) -> Result<(), Refusal> {

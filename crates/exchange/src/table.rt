@@ -24,7 +24,7 @@ pub(crate) fn count_empty<R: Copy>(squares: &[Option<R>]) -> usize
     ensures sum { result ≡ empties squares.now }
     ensures few { result ≤ length squares.now }
 {
-    squares.iter().filter(|o| o.is_none()).count()
+    squares.iter().map(|o| usize::from(o.is_none())).sum()
 }
 
 // Writes a word into squares, all of which are to be empty.
@@ -41,6 +41,13 @@ pub(crate) fn place<R: Copy>(squares: &mut [Option<R>], word: R) -> Result<(), R
     Ok(())
 }
 
+// Empties all places.
+pub(crate) fn clear<R: Copy>(table: &mut [Option<R>])
+    ensures { table.new ≡ replicate (length table.old) None }
+{
+    table.fill(None);
+}
+
 // Empties a table for n seats, which need so many of its places.
 pub(crate) fn clear_for<R: Ring>(
     table: &mut [Option<R>],
@@ -53,6 +60,6 @@ pub(crate) fn clear_for<R: Ring>(
     if need > table.len() {
         return Err(Refusal::Length);
     }
-    table.fill(None);
+    clear(table);
     Ok(())
 }
