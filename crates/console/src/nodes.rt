@@ -170,8 +170,13 @@ fn pair<'a, R: Notation>(mut words: Words<'a>, desk: &mut Desk<R>) -> Result<Ans
         return Err(Trouble::Line(Misread::Gap, line));
     }
     let threshold = desk.dealing.threshold;
-    let high = form.row(line, high, desk, threshold.saturating_mul(2))?;
-    let low = form.row(line, low, desk, threshold)?;
+    // Both rows are dealt before either is refused: want of memory for one is told before the other's refusal.
+    let high = form.row(line, high, desk, threshold.saturating_mul(2));
+    let low = form.row(line, low, desk, threshold);
+    if let Err(Trouble::Memory) = low {
+        return Err(Trouble::Memory);
+    }
+    let (high, low) = (high?, low?);
     put(&mut desk.dealing.pairs, number, Pair { high, low })?;
     Ok(Answer::Done)
 }
@@ -215,7 +220,7 @@ impl<R: Notation> Gathered<R> {
     ) -> Result<Gathered<R>, AllocError> {
         let Dealing { inputs, pairs, .. } = dealing;
         Ok(Gathered {
-            constants: constants.to_vec(heap)?,
+            constants: Vec::from_slice(heap, constants)?,
             inputs: inputs
                 .iter()
                 .filter_map(|row| part_of(row.as_slice(), seat))
